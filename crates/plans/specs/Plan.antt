@@ -1,0 +1,93 @@
+-- The least forest at each moment of a batch, and what each change exchanges.
+use Prim.Native.Nat.{ℕ, _<_, _≤_}
+use mathlib.Core.Path.{_≡_}
+use mathlib.Core.Logic.{_⊎_}
+use mathlib.Core.Bool.{Bool, true, false, cond, _||_}
+use mathlib.Core.List.{List, [], _∷_, map}
+use lib.Dec.{eqb, ltb}
+use lib.ListN.{take}
+use Rattle.graphs.specs.declared.Link.{Link}
+use Rattle.graphs.specs.Graph.{joins}
+use Rattle.graphs.specs.Forest.{ordered, forest, filtered}
+use Rattle.plans.specs.declared.Move.{Move}
+use Rattle.plans.specs.Places.{placeOf, placeBefore, moved}
+
+-- The least forest of the links at some places.
+abbrev pub forestAt : List ℕ → List Link → List Link
+forestAt places es = forest (placeBefore places) es
+
+-- The links' numbers, ascending.
+unfoldable pub numbers : List Link → List ℕ
+numbers es = map (λ (e : Link). e .number) (ordered ltb es)
+
+-- The numbers of the least forest, ascending.
+abbrev pub treeAt : List ℕ → List Link → List ℕ
+treeAt places es = numbers (forestAt places es)
+
+-- Whether k is one of the numbers.
+unfoldable pub among : ℕ → List ℕ → Bool
+among k [] = false
+among k (x ∷ xs) = eqb k x || among k xs
+
+-- Number k is in the first list and not in the second.
+abbrev pub Gone : List ℕ → List ℕ → ℕ → Type 0
+Gone xs ys k = (among k xs ≡ true) × (among k ys ≡ false)
+
+-- From one list to the next at most one number goes, at most one comes, and if any does then z is one of the two.
+pub record Exchange (z : ℕ) (xs ys : List ℕ) : Type 0 where
+  pub leaves : (j k : ℕ) → Gone xs ys j → Gone xs ys k → j ≡ k
+  pub comes : (j k : ℕ) → Gone ys xs j → Gone ys xs k → j ≡ k
+  pub touches : (k : ℕ) → Gone xs ys k ⊎ Gone ys xs k → Gone xs ys z ⊎ Gone ys xs z
+
+-- The first of xs that is not among ys, or 0.
+unfoldable pub firstBut : List ℕ → List ℕ → ℕ
+firstBut [] ys = 0
+firstBut (x ∷ xs) ys = cond (among x ys) (firstBut xs ys) x
+
+-- An entry: the link that leaves and the link that comes, each 0 for none.
+abbrev pub Entry : Type 0
+Entry = ℕ × ℕ
+
+abbrev pub entry : List ℕ → List ℕ → Entry
+entry xs ys = (firstBut xs ys, firstBut ys xs)
+
+-- One entry for each change.
+unfoldable pub entries : List ℕ → List Link → List (Move ℕ) → List Entry
+entries places es [] = []
+entries places es (c ∷ cs) = entry (treeAt places es) (treeAt (moved places c) es) ∷ entries (moved places c) es cs
+
+-- Numbers in ascending order, none twice.
+abbrev pub Ascending : List ℕ → Type 0
+Ascending [] = Unit {0}
+Ascending (x ∷ xs) = ((y : ℕ) → among y xs ≡ true → x < y) × Ascending xs
+
+-- Ascending numbers without k; with k, which is none if 0.
+unfoldable pub without : ℕ → List ℕ → List ℕ
+without k [] = []
+without k (x ∷ xs) = cond (eqb k x) xs (x ∷ without k xs)
+
+unfoldable pub inserted : ℕ → List ℕ → List ℕ
+inserted k [] = k ∷ []
+inserted k (x ∷ xs) = cond (ltb k x) (k ∷ x ∷ xs) (x ∷ inserted k xs)
+
+abbrev pub withOne : ℕ → List ℕ → List ℕ
+withOne k xs = cond (eqb k 0) xs (inserted k xs)
+
+-- A tree after an entry; after several, in turn; after the first t.
+abbrev pub exchanged : List ℕ → Entry → List ℕ
+exchanged xs e = withOne (e .1) (without (e .0) xs)
+
+unfoldable pub exchangedBy : List ℕ → List Entry → List ℕ
+exchangedBy xs [] = xs
+exchangedBy xs (e ∷ es) = exchangedBy (exchanged xs e) es
+
+abbrev pub replayed : List ℕ → List Entry → ℕ → List ℕ
+replayed start es t = exchangedBy start (take t es)
+
+-- The links join all nodes from 1 to n.
+abbrev pub AllJoined : ℕ → List Link → Type 0
+AllJoined n es = (x y : ℕ) → 1 ≤ x → x ≤ n → 1 ≤ y → y ≤ n → joins es x y ≡ true
+
+-- The present links: those placed before the place of absent ones.
+abbrev pub present : List ℕ → ℕ → List Link → List Link
+present places absent es = filtered (λ e. ltb (placeOf places (e .number)) absent) es
