@@ -30,6 +30,19 @@ at-most-one (g ∷ x ∷ es) h i j = absurd (omega arith)
 differ : (x y : Bool) → (x ≡ true) × (y ≡ false) → x ≡ y → ⊥
 differ x y l h = both-ways x (h ∙ l .1) (l .0)
 
+-- Where a link leaves, another comes in.
+pub replaced : {lt lt′ : ℕ → ℕ → Bool} {es : List Link} → Strict lt → Strict lt′ → Apart es → (k : ℕ) → Leaves k (forest lt es) (forest lt′ es)
+    → ((f : Link) → In f (forest lt′ es) → holds (f .number) (forest lt es) ≡ true) → ⊥
+replaced {lt} {lt′} {es} s s′ d k l h =
+    let r = holds-in k (forest lt es) (l .0) in
+    no-loop s d (forest lt′ es) (r .1)
+    (λ f i. (
+      let q = holds-in _ (forest lt es) (h f i) in
+          rw (sole d (forest-in lt es (q .1)) (forest-in lt′ es i) (q .2)) at (q .1),
+      λ e. both-ways _ (l .1) (held i (e ∙ r .2)),
+    ))
+    (walk-mono (λ f i. sifted _ (forest lt′ es) i .0) (spans s′ d (forest-in lt es (r .1))))
+
 module _ (c : ℕ) {lt lt′ : ℕ → ℕ → Bool} {es : List Link} (s : Strict lt) (s′ : Strict lt′)
     (a : Agree (λ k. eqb k c) lt lt′) (d : Apart es) where
   abbrev thin : List Link
@@ -56,19 +69,7 @@ module _ (c : ℕ) {lt lt′ : ℕ → ℕ → Bool} {es : List Link} (s : Stric
       (in-sift _ (p .1) (not-from-false _ (ne-eqb _ _ (λ h. mj (sym (p .2) ∙ h)))))
       (in-sift _ (q .1) (not-from-false _ (ne-eqb _ _ (λ h. mk (sym (q .2) ∙ h)))))) ∙ q .2
 
-  -- Where a link leaves, another comes in,
-  replaced : (k : ℕ) → Leaves k (forest lt es) (forest lt′ es) → ((f : Link) → In f (forest lt′ es) → holds (f .number) (forest lt es) ≡ true) → ⊥
-  replaced k l h =
-      let r = holds-in k (forest lt es) (l .0) in
-      no-loop s d (forest lt′ es) (r .1)
-      (λ f i. (
-        let q = holds-in _ (forest lt es) (h f i) in
-            rw (sole d (forest-in lt es (q .1)) (forest-in lt′ es i) (q .2)) at (q .1),
-        λ e. both-ways _ (l .1) (held i (e ∙ r .2)),
-      ))
-      (walk-mono (λ f i. sifted _ (forest lt′ es) i .0) (spans s′ d (forest-in lt es (r .1))))
-
-  -- and that is c, if the first is not.
+  -- Where a link leaves that is not c, c comes in.
   leaves-for : (k : ℕ) → k ≢ c → Leaves k (forest lt es) (forest lt′ es) → Leaves c (forest lt′ es) (forest lt es)
   leaves-for k m l =
       elim (cases-bool (holds c (forest lt′ es))) [
@@ -77,7 +78,7 @@ module _ (c : ℕ) {lt lt′ : ℕ → ℕ → Bool} {es : List Link} (s : Stric
       ]
     where
       stays : (Leaves c (forest lt′ es) (forest lt es) → ⊥) → ⊥
-      stays n = replaced k l (λ f i. elim (cases-bool (holds (f .number) (forest lt es))) [
+      stays n = replaced s s′ d k l (λ f i. elim (cases-bool (holds (f .number) (forest lt es))) [
         | inl t ↦ t
         | inr u ↦ elim (cases-eq (f .number) c) [
           | inl h ↦ absurd (n (held i h, rw h at u))

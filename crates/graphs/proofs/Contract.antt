@@ -14,9 +14,9 @@ use Rattle.graphs.specs.Thinning.{relabelled, Agree}
 use Rattle.graphs.proofs.Joined.{walk-mono}
 use Rattle.graphs.proofs.Lists.{in-sift}
 use Rattle.graphs.proofs.Orders.{strict-named}
-use Rattle.graphs.proofs.Walks.{hop, same-stay, reroute, in-left, in-either, sifted, holds-in, held, holds-as, Apart, sole}
+use Rattle.graphs.proofs.Walks.{hop, reroute, in-left, in-either, sifted, holds-in, held, holds-as, Apart, sole}
 use Rattle.graphs.proofs.Spanning.{forest-in, keeps, drops, spans, no-loop}
-use Rattle.graphs.proofs.Rename.{walk-renamed, moved-in, in-relabel, relabel-apart, filtered-relabel, walk-relabel, relabel-walk}
+use Rattle.graphs.proofs.Rename.{moved-in, in-relabel, relabel-apart, filtered-relabel, walk-relabel, relabel-walk}
 
 first-before : (named : ℕ → Bool) (lt : ℕ → ℕ → Bool) (j k : ℕ) → named k ≡ false → (named j ≡ false → lt j k ≡ true)
     → namedFirst named lt j k ≡ true
@@ -61,9 +61,6 @@ module _ {named : ℕ → Bool} {lt lt′ : ℕ → ℕ → Bool} {es : List Lin
             n (rw (sole d (forest-in lt′ es m) (forest-in lt′ es i) h) at k)))))
       ]) w)
 
-  pub unjoined-kept : {z : Link} → In z es → (Walk (befores lt′ z es ++ mergeable named lt es) (z .a .0) (z .b .0) → ⊥) → In z (forest lt′ es)
-  unjoined-kept i n = elim (drops s′ d i) [ inl j ↦ j | inr w ↦ absurd (n (walk-mono (λ e j. in-left (mergeable named lt es) j) w)) ]
-
   abbrev ms : List Link
   ms = mergeable named lt es
 
@@ -82,10 +79,6 @@ module _ {named : ℕ → Bool} {lt lt′ : ℕ → ℕ → Bool} {es : List Lin
         | inr w ↦ absurd (keeps s′ (relabel-apart ms d) i
             (rw (filtered-relabel (λ k. lt′ k (z .number)) ms es) (walk-relabel ms (befores lt′ z es) (walk-mono (λ e j. in-left ms j) w))))
       ]
-
-  -- A merged link is not in the least forest of the contracted graph.
-  pub merged-gone : {z : Link} → In z ms → In (relabelled ms z) (forest lt′ (relabel ms es)) → ⊥
-  merged-gone k i = keeps s′ (relabel-apart ms d) i (same-stay (walk-renamed (hop k)))
 
   -- The least forest is the merged links and the least forest of the contracted graph.
   pub contracted-same : (k : ℕ) → holds k (forest lt′ es) ≡ (holds k ms || holds k (forest lt′ (relabel ms es)))

@@ -8,15 +8,12 @@ use lib.ListN.{length}
 use Rattle.std.proofs.shelf.Tests.{cases-eq, cases-lt}
 use Rattle.std.proofs.shelf.Ways.{tells}
 use Rattle.graphs.specs.declared.Link.{Link}
-use Rattle.graphs.specs.Graph.{label, joins, In, here, later}
+use Rattle.graphs.specs.Graph.{label, joins, here, later}
 use Rattle.graphs.specs.Forest.{Distinct, LoopFree}
+use Rattle.graphs.specs.Spanning.{Within}
 use Rattle.graphs.specs.Thin.{roots}
 use Rattle.graphs.proofs.Joined.{Spans, Joined, label-le, label-twice, label-joined, label-same, joined-spans, joined-dec}
 use Rattle.graphs.proofs.Loops.{Acyclic, acyclic}
-
--- Both ends of each link are among the nodes 1 to n.
-abbrev pub Within : ℕ → List Link → Type 0
-Within n es = (e : Link) → In e es → (1 ≤ e .a .0) × (e .a .0 ≤ n) × (1 ≤ e .b .0) × (e .b .0 ≤ n)
 
 -- A node that is its own label.
 abbrev Root : List Link → ℕ → Type 0
@@ -51,11 +48,11 @@ module _ (A B : List Link) (m : ℕ) (was : Root A m) (gone : Root B m → ⊥) 
 within-later : {n : ℕ} {c : Link} {A : List Link} → Within n (c ∷ A) → Within n A
 within-later w e i = w e (later i)
 
-label-pos : (n : ℕ) (es : List Link) → Within n es → (x : ℕ) → 1 ≤ x → 1 ≤ label es x
+pub label-pos : {n : ℕ} (es : List Link) → Within n es → (x : ℕ) → 1 ≤ x → 1 ≤ label es x
 unfolding label
-label-pos n [] w x h = h
-label-pos n (e ∷ es) w x h =
-    let i = label-pos n es (within-later w) in
+label-pos [] w x h = h
+label-pos (e ∷ es) w x h =
+    let i = label-pos es (within-later w) in
     let p = i (e .a .0) (w e here .0) in
     let q = i (e .b .0) (w e here .2) in
     let r = i x h in
@@ -78,7 +75,7 @@ module _ (n : ℕ) (c : Link) (A : List Link) (w : Within n (c ∷ A)) where
       let was : label A (max p q) ≡ max p q =
       elim (cases-lt p q) [ inl h ↦ let e : max p q ≡ q = omega arith in cc | inr h ↦ let e : max p q ≡ p = omega arith in cc ] in
       roots-less A (c ∷ A) (max p q) was (λ h. grind (arith, tells))
-      (omega (arith, label-pos n A (within-later w) (c .a .0) (w c here .0)))
+      (omega (arith, label-pos A (within-later w) (c .a .0) (w c here .0)))
       (λ x h. let le = label-le A x in elim (cases-eq (label A x) (max p q)) [
         | inl e ↦ inr (λ g. h (sym g ∙ e), λ g. grind (arith, tells))
         | inr u ↦ inl (grind (arith, tells))
@@ -104,7 +101,3 @@ roots-any n (e ∷ A) w =
 pub roots-spans : (n : ℕ) (A B : List Link) → Spans B A → roots B n ≤ roots A n
 roots-spans n A B s = roots-mono A B
     (λ x h. let j = joined-spans s (label-joined A x) in omega (arith, label-le A x, label-le B (label A x))) n
-
--- Rank: loop-free links are no more than any links that join their ends.
-pub rank : (n : ℕ) (A B : List Link) → Within n A → Within n B → Distinct A → LoopFree A → Spans B A → length A ≤ length B
-rank n A B v w d l s = omega (arith, roots-loopfree n A v d l, roots-any n B w, roots-spans n A B s)

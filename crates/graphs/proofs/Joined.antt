@@ -209,9 +209,6 @@ walk-or c es w =
       | inr (inr k) ↦ inr (inr (joined-walk es (k .0), joined-walk es (k .1)))
     ]
 
--- Links that join each other's ends join the same nodes; so do links in another order.
+-- Links that join each other's ends join the same nodes.
 pub joins-spans : {A B : List Link} → Spans B A → Spans A B → (x y : ℕ) → joins A x y ≡ joins B x y
 joins-spans h k x y = ap₂ eqb (label-spans h k x) (label-spans h k y)
-
-pub joins-same : {A B : List Link} → A ⊆ B → B ⊆ A → (x y : ℕ) → joins A x y ≡ joins B x y
-joins-same h k = joins-spans (λ e i. joined-in (h e i)) (λ e i. joined-in (k e i))

@@ -1,7 +1,7 @@
 -- The nodes of a thinned graph: numbered from 1, each a merged one, and few.
 use Prim.Native.Nat.{ℕ, zero, suc, _+_, _<_, _≤_, max}
 use mathlib.Core.Path.{_≡_, refl, ap, _∙_}
-use mathlib.Core.Bool.{Bool, true}
+use mathlib.Core.Bool.{Bool}
 use mathlib.Core.List.{List, [], _∷_, _++_}
 use mathlib.Core.Logic.{inl, inr}
 use native.Mathlib.Omega.{arith}
@@ -9,29 +9,20 @@ use lib.ListN.{length}
 use Rattle.std.proofs.shelf.Tests.{cases-eq, cases-lt}
 use Rattle.std.proofs.shelf.Ways.{tells}
 use Rattle.graphs.specs.declared.Link.{Link}
-use Rattle.graphs.specs.Graph.{merged, label, In, here, later}
+use Rattle.graphs.specs.Graph.{label, In}
 use Rattle.graphs.specs.Forest.{Strict, forest}
 use Rattle.graphs.specs.Thin.{Block, reduced, namedFirst, roots, renamed, relabel, contracted, thinned}
 use Rattle.graphs.specs.Thinning.{chosen, relabelled, merges}
 use Rattle.graphs.proofs.Joined.{label-le, label-twice, walk-joined}
-use Rattle.graphs.proofs.Count.{Within, roots-spans}
+use Rattle.graphs.specs.Spanning.{Within}
+use Rattle.graphs.proofs.Count.{label-pos, roots-spans}
 use Rattle.graphs.proofs.Walks.{reroute, sifted, Apart}
 use Rattle.graphs.proofs.Spanning.{forest-in}
-use Rattle.graphs.proofs.Rename.{roots-mono, roots-less, moved-in, in-relabel}
-use Rattle.graphs.proofs.Reduce.{in-reduced, named-reduced, reduced-apart, bypass}
+use Rattle.graphs.proofs.Rename.{roots-mono, roots-less, in-relabel}
+use Rattle.graphs.proofs.Reduce.{in-reduced, reduced-apart, bypass}
 use Rattle.graphs.proofs.Contract.{in-mergeable}
 use Rattle.graphs.proofs.Thinned.{moved-apart}
 use Rattle.graphs.proofs.Size.{spanned, few-named}
-
-merged-pos : (p q r : ℕ) → 1 ≤ p → 1 ≤ q → 1 ≤ r → 1 ≤ merged p q r
-merged-pos p q r hp hq hr = grind (arith, tells)
-
-pub label-pos : {n : ℕ} (es : List Link) → Within n es → (x : ℕ) → 1 ≤ x → 1 ≤ label es x
-unfolding label
-label-pos [] h x p = p
-label-pos (e ∷ es) h x p =
-    let r = label-pos es (λ f i. h f (later i)) in
-    merged-pos _ _ _ (r (e .a .0) (h e here .0)) (r (e .b .0) (h e here .2)) (r x p)
 
 -- New nodes are within their number, and each is a merged old one.
 pub renamed-within : {n : ℕ} (es : List Link) → Within n es → (x : ℕ) → 1 ≤ x → x ≤ n → (1 ≤ renamed es x) × (renamed es x ≤ roots es n)
@@ -101,15 +92,10 @@ module _ (named : ℕ → Bool) (lt : ℕ → ℕ → Bool) (g : Block) (s : Str
   unfolding thinned contracted
   thinned-apart = reduced-apart named lt (moved-apart named lt g s d)
 
-  -- Each link of the thinned graph is a relabelled link of the graph, and all named links are there.
+  -- Each link of the thinned graph is a relabelled link of the graph.
   pub in-thinned : {z : Link} → In z (thinned named lt g .links)
       → (e : Link) × In e (g .links) × (relabelled (merges named lt g) e ≡ z)
   unfolding thinned contracted
   in-thinned i =
       let r = in-relabel (merges named lt g) (reduced named lt (g .links)) (in-reduced named lt (moved-apart named lt g s d) i .0) in
       (r .0, in-reduced named lt d (r .1) .0, r .2)
-
-  pub named-thinned : {e : Link} → In e (g .links) → named (e .number) ≡ true → In (relabelled (merges named lt g) e) (thinned named lt g .links)
-  unfolding thinned contracted
-  named-thinned i t =
-      named-reduced named lt (moved-apart named lt g s d) (moved-in (merges named lt g) (named-reduced named lt d i t)) t

@@ -1,16 +1,12 @@
--- Orders of link numbers, and the forest on an example.
+-- Orders of link numbers.
 use Prim.Native.Nat.{ℕ}
-use mathlib.Core.Path.{_≡_, refl}
 use mathlib.Core.Bool.{Bool}
-use mathlib.Core.List.{[], _∷_}
 use mathlib.Core.Logic.{inl, inr}
 use native.Mathlib.Omega.{arith}
 use lib.Dec.{ltb}
 use Rattle.std.proofs.shelf.Tests.{cases-order, cases-eq, cases-bool, lt-ltb}
 use Rattle.std.proofs.shelf.Ways.{tells}
-use Rattle.graphs.specs.declared.Link.{Link}
-use Rattle.graphs.specs.Graph.{label}
-use Rattle.graphs.specs.Forest.{Strict, forest, greedy, ordered, placed}
+use Rattle.graphs.specs.Forest.{Strict}
 use Rattle.graphs.specs.Thin.{namedFirst}
 
 -- By number.
@@ -35,11 +31,3 @@ strict-named named lt o = record {
         ]
   ];
 }
-
-link : ℕ → ℕ → ℕ → Link
-link n x y = record { number = n; a = record { 0 = x }; b = record { 0 = y } }
-
--- A triangle and one more link: the last link of the triangle, in order, is left out.
-example : forest ltb (link 3 1 2 ∷ link 1 2 3 ∷ link 4 3 4 ∷ link 2 1 3 ∷ []) ≡ (link 1 2 3 ∷ link 2 1 3 ∷ link 4 3 4 ∷ [])
-unfolding greedy ordered placed label link
-example = refl

@@ -1,13 +1,16 @@
 -- Loop-free links, and how many there are.
 use Prim.Native.Nat.{ℕ, suc, _≤_}
-use mathlib.Core.Path.{_≡_, refl, ap}
+use mathlib.Core.Path.{_≡_, refl, sym, ap}
 use mathlib.Core.List.{List, [], _∷_, _++_}
-use mathlib.Core.Logic.{_⊎_, inl, inr}
+use mathlib.Core.Logic.{_⊎_, inl, inr, _≢_}
 use native.Mathlib.Omega.{arith}
 use lib.ListN.{length}
 use Rattle.graphs.specs.declared.Link.{Link}
 use Rattle.graphs.specs.Graph.{In, here, later, Walk}
-use Rattle.graphs.proofs.Joined.{walk-trans, walk-sym, walk-mono, walk-dec, walk-or}
+use Rattle.graphs.specs.Forest.{Distinct, LoopFree}
+use Rattle.graphs.proofs.Joined.{_⊆_, Spans, joined-walk, walk-joined, walk-trans, walk-sym, walk-mono, walk-dec, walk-or}
+use Rattle.graphs.proofs.Lists.{in-cons, in-others}
+use Rattle.graphs.proofs.Loops.{unjoined}
 use Rattle.graphs.proofs.Walks.{hop, reroute, in-left, in-right, in-either}
 
 -- Loop-free links: each has ends that the ones before it, with the links `os`, do not join.
@@ -56,3 +59,20 @@ free-rank bs (grown n f) h =
     let s = swap _ bs n (h _ here) in
     let r = free-rank (s .0) f (λ e i. reroute (s .2) (h e (later i))) in
     omega (arith, s .1)
+
+-- Links of a loop-free set, each taken once, are so.
+pub free-part : {T : List Link} → LoopFree T → (os fs : List Link) → Distinct fs → fs ⊆ T
+    → ((f : Link) → In f os → In f T × ((e : Link) → In e fs → e .number ≢ f .number)) → Free os fs
+free-part l os [] d h k = bare
+free-part {T} l os (e ∷ fs) d h k =
+    grown
+    (λ w. unjoined (l e (h e here)) (walk-joined (walk-mono (λ f j. in-others e (k f j .0) (λ q. k f j .1 e here (sym q))) w)))
+    (free-part l (e ∷ os) fs (d .1) (λ f j. h f (later j)) (λ f j.
+    in-cons (λ f. In f T × ((e : Link) → In e fs → e .number ≢ f .number)) j
+    (h e here, λ c i q. d .0 c i (sym q)) (λ j. (k f j .0, λ c i. k f j .1 c (later i)))))
+
+-- Rank: loop-free links are no more than any links that join their ends.
+pub rank : (A B : List Link) → Distinct A → LoopFree A → Spans B A → length A ≤ length B
+rank A B d l s =
+    free-rank {os = []} {es = A} B (free-part l [] A d (λ e i. i) (λ f i. elim i [ ]))
+    (λ e i. walk-mono (λ f j. in-left [] j) (joined-walk B (s e i)))

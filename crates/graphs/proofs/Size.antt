@@ -14,11 +14,12 @@ use Rattle.graphs.specs.Forest.{Strict, Distinct, placed, ordered, greedy, for
 use Rattle.graphs.specs.Thin.{Block, holds, either, reduced, namedFirst, mergeable, relabel, contracted, thinned}
 use Rattle.graphs.specs.Thinning.{chosen, rest, merges}
 use Rattle.graphs.proofs.Joined.{walk-mono}
-use Rattle.graphs.proofs.Lists.{in-cons, in-sift, filtered-distinct}
+use Rattle.graphs.proofs.Lists.{in-sift, filtered-distinct}
 use Rattle.graphs.proofs.Orders.{strict-named}
 use Rattle.graphs.proofs.Walks.{in-left, in-right, sifted, Apart, filtered-apart}
-use Rattle.graphs.proofs.Spanning.{spans, no-loop}
-use Rattle.graphs.proofs.Rank.{Free, bare, grown, free-rank}
+use Rattle.graphs.proofs.Kruskal.{forest-loopfree}
+use Rattle.graphs.proofs.Spanning.{spans}
+use Rattle.graphs.proofs.Rank.{free-rank, free-part}
 use Rattle.graphs.proofs.Rename.{in-relabel, length-relabel, filtered-relabel, walk-relabel}
 use Rattle.graphs.proofs.Reduce.{in-reduced, reduced-apart}
 use Rattle.graphs.proofs.Thinned.{thinned-links, moved-apart}
@@ -80,17 +81,6 @@ pub chosen-more : (c : ℕ) (named : ℕ → Bool) (es : List Link) → Distinct
     → length (chosen (λ k. eqb k c || named k) es) ≤ suc (length (chosen named es))
 chosen-more c named es d = omega (arith, filtered-either (λ e. eqb (e .number) c) (λ e. named (e .number)) es, chosen-one c es d)
 
--- Links of the least forest, each taken once, are loop-free.
-module _ {lt : ℕ → ℕ → Bool} {es : List Link} (s : Strict lt) (d : Apart es) where
-  free-part : (os fs : List Link) → Distinct fs → ((e : Link) → In e fs → In e (forest lt es))
-      → ((f : Link) → In f os → In f (forest lt es) × ((e : Link) → In e fs → e .number ≡ f .number → ⊥)) → Free os fs
-  free-part os [] b h k = bare
-  free-part os (e ∷ fs) b h k =
-      grown (no-loop s d os (h e here) (λ f j. (k f j .0, λ q. k f j .1 e here (sym q))))
-      (free-part (e ∷ os) fs (b .1) (λ f j. h f (later j)) (λ f j.
-      in-cons (λ f. In f (forest lt es) × ((e : Link) → In e fs → e .number ≡ f .number → ⊥)) j
-      (h e here, λ c l q. b .0 c l (sym q)) (λ j. (k f j .0, λ c l. k f j .1 c (later l)))))
-
 module _ (named : ℕ → Bool) (lt : ℕ → ℕ → Bool) (g : Block) (s : Strict lt) (d : Apart (g .links)) where
   -- The ends of each reduced link are joined by the merged links and the named links of the least forest, named links first.
   pub spanned : {e : Link} → In e (reduced named lt (g .links))
@@ -129,7 +119,7 @@ module _ (named : ℕ → Bool) (lt : ℕ → ℕ → Bool) (g : Block) (s : Str
       let a = moved-apart named lt g s d in
       let p : Link → Bool = λ e. not (named (e .number)) in
       let r = free-rank {os = []} {es = rest named (reduced named lt cs)} (relabel ms fs)
-      (free-part s (filtered-apart p a) [] (rest named (reduced named lt cs)) (filtered-apart p (reduced-apart named lt a) .distinct)
+      (free-part (forest-loopfree lt (rest named cs)) [] (rest named (reduced named lt cs)) (filtered-apart p (reduced-apart named lt a) .distinct)
       (λ e i. let q = sifted p (reduced named lt cs) i in
       elim (in-reduced named lt a (q .0) .1) [ inl t ↦ absurd (both-ways _ (not-true _ (q .1)) t) | inr j ↦ j ])
       (λ f i. elim i [ ]))

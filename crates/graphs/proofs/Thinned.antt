@@ -2,12 +2,12 @@
 use Prim.Native.Nat.{ℕ}
 use mathlib.Core.Path.{_≡_, refl, sym, ap, _∙_}
 use mathlib.Core.Bool.{Bool, true, false, _||_}
-use mathlib.Core.Logic.{inl, inr, _↔_}
-use Rattle.std.proofs.shelf.Tests.{cases-bool, both-ways, or-cases, or-parts}
+use mathlib.Core.Logic.{inl, inr}
+use Rattle.std.proofs.shelf.Tests.{cases-bool, both-ways}
 use Rattle.graphs.specs.Forest.{Strict, forest}
 use Rattle.graphs.specs.Thin.{Block, holds, reduced, relabel, contracted, thinned}
-use Rattle.graphs.specs.Thinning.{relabelled, merges, Agree, Leaves}
-use Rattle.graphs.proofs.Walks.{hop, same-stay, holds-in, held, Apart, sole, filtered-apart}
+use Rattle.graphs.specs.Thinning.{relabelled, merges, Agree}
+use Rattle.graphs.proofs.Walks.{hop, same-stay, holds-in, Apart, sole, filtered-apart}
 use Rattle.graphs.proofs.Spanning.{forest-in, forest-unheld, keeps}
 use Rattle.graphs.proofs.Rename.{walk-renamed, moved-in, relabel-apart}
 use Rattle.graphs.proofs.Reduce.{in-reduced, reduced-apart, reduced-same}
@@ -61,16 +61,3 @@ module _ (named : ℕ → Bool) (lt : ℕ → ℕ → Bool) (g : Block) (s : Str
     pub thinned-gone : (k : ℕ) → holds k (thinned named lt g .links) ≡ false
         → holds k (forest lt′ (g .links)) ≡ holds k (merges named lt g)
     thinned-gone k h = thinned-same k ∙ rw (forest-unheld lt′ k (thinned named lt g .links) h) (or-none (holds k (merges named lt g)))
-
-  -- What leaves the least forest from one order to another is what leaves that of the thinned graph.
-  module _ {lt′ lt″ : ℕ → ℕ → Bool} (s′ : Strict lt′) (s″ : Strict lt″) (a : Agree named lt lt′) (b : Agree named lt lt″) where
-    pub thinned-leaves : (k : ℕ) → Leaves k (forest lt′ (g .links)) (forest lt″ (g .links))
-        ↔ Leaves k (forest lt′ (thinned named lt g .links)) (forest lt″ (thinned named lt g .links))
-    thinned-leaves k =
-        let p = thinned-same s′ a k in let q = thinned-same s″ b k in (
-          (λ l. let u = or-parts (holds k (merges named lt g)) _ (sym q ∙ l .1) in
-              (elim (or-cases (holds k (merges named lt g)) _ (sym p ∙ l .0)) [ inl t ↦ absurd (both-ways _ (u .0) t) | inr t ↦ t ], u .1)),
-          (λ l. let h = holds-in k _ (l .0) in
-              let t = held (forest-in lt′ (thinned named lt g .links) (h .1)) (h .2) in
-              (thinned-held s′ a k t ∙ l .0, thinned-held s″ b k t ∙ l .1)),
-        )

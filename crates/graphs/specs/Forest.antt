@@ -1,5 +1,5 @@
 -- Kruskal's greedy forest of links.
-use Prim.Native.Nat.{ℕ, _+_}
+use Prim.Native.Nat.{ℕ}
 use mathlib.Core.Path.{_≡_}
 use mathlib.Core.Logic.{_⊎_, _≢_}
 use mathlib.Core.Bool.{Bool, true, false, cond, not, _||_}
@@ -64,8 +64,3 @@ others z es = filtered (λ f. not (eqb (f .number) (z .number))) es
 -- The links hold no loop: the others join the ends of none.
 abbrev pub LoopFree : List Link → Type 0
 LoopFree es = (z : Link) → In z es → joins (others z es) (z .a .0) (z .b .0) ≡ false
-
--- The links' weights summed.
-unfoldable pub total : (Link → ℕ) → List Link → ℕ
-total w [] = 0
-total w (e ∷ es) = w e + total w es

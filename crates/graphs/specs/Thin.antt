@@ -7,10 +7,12 @@ use Rattle.graphs.specs.declared.Link.{Link}
 use Rattle.graphs.specs.Graph.{label}
 use Rattle.graphs.specs.Forest.{forest, filtered}
 
+-- A block's graph: its node count, and its links.
 pub record Block : Type 0 where
   pub nodes : ℕ
   pub links : List Link
 
+-- Whether one of the links has number k.
 unfoldable pub holds : ℕ → List Link → Bool
 holds k [] = false
 holds k (e ∷ es) = cond (eqb k (e .number)) true (holds k es)
@@ -37,19 +39,26 @@ unfoldable pub roots : List Link → ℕ → ℕ
 roots es zero = 0
 roots es (suc n) = cond (eqb (label es (suc n)) (suc n)) (suc (roots es n)) (roots es n)
 
--- Merged nodes are numbered from 1 by their smallest member.
+-- The new numbers of nodes where the ends of some links are merged: merged nodes are numbered from 1 by their smallest member.
 abbrev pub renamed : List Link → ℕ → ℕ
-renamed es x = roots es (label es x)
+renamed ms x = roots ms (label ms x)
 
+-- A link with its ends renamed by any numbering; it keeps its number.
+abbrev pub withEnds : (ℕ → ℕ) → Link → Link
+withEnds new e = record { number = e .number; a = record { 0 = new (e .a .0) }; b = record { 0 = new (e .b .0) } }
+
+-- Links with their ends renamed to the new numbers.
 unfoldable pub relabel : List Link → List Link → List Link
 relabel ms [] = []
-relabel ms (e ∷ es) = record { number = e .number; a = record { 0 = renamed ms (e .a .0) }; b = record { 0 = renamed ms (e .b .0) } } ∷ relabel ms es
+relabel ms (e ∷ es) = withEnds (renamed ms) e ∷ relabel ms es
 
+-- The ends of all mergeable links merged.
 unfoldable pub contracted : (ℕ → Bool) → (ℕ → ℕ → Bool) → Block → Block
 contracted named lt g =
     let ms = mergeable named lt (g .links) in
     record { nodes = roots ms (g .nodes); links = relabel ms (g .links) }
 
+-- Reduced, contracted, and reduced again.
 unfoldable pub thinned : (ℕ → Bool) → (ℕ → ℕ → Bool) → Block → Block
 thinned named lt g =
     let c = contracted named lt (record { nodes = g .nodes; links = reduced named lt (g .links) }) in

@@ -6,7 +6,7 @@ use mathlib.Core.Logic.{_≢_}
 use mathlib.Core.List.{List}
 use Rattle.graphs.specs.declared.Link.{Link}
 use Rattle.graphs.specs.Forest.{filtered}
-use Rattle.graphs.specs.Thin.{Block, holds, reduced, mergeable, renamed}
+use Rattle.graphs.specs.Thin.{Block, holds, reduced, mergeable, renamed, withEnds}
 
 -- The links that are named, and those that are not.
 abbrev pub chosen : (ℕ → Bool) → List Link → List Link
@@ -15,9 +15,9 @@ chosen named es = filtered (λ e. named (e .number)) es
 abbrev pub rest : (ℕ → Bool) → List Link → List Link
 rest named es = filtered (λ e. not (named (e .number))) es
 
--- A link between merged nodes.
+-- A link with its ends renamed to the new numbers of merged nodes.
 abbrev pub relabelled : List Link → Link → Link
-relabelled ms e = record { number = e .number; a = record { 0 = renamed ms (e .a .0) }; b = record { 0 = renamed ms (e .b .0) } }
+relabelled ms e = withEnds (renamed ms) e
 
 -- The links that are merged as a block's graph is thinned.
 abbrev pub merges : (ℕ → Bool) → (ℕ → ℕ → Bool) → Block → List Link

@@ -1,126 +1,123 @@
--- A change moves one link only; what it exchanges; a plan replayed.
+-- A move changes the order of one link only; what it exchanges; a plan replayed.
 use Prim.Native.Nat.{ℕ, zero, suc, _<_, _≤_}
-use mathlib.Core.Path.{_≡_, refl, sym, ap, _∙_}
+use mathlib.Core.Path.{_≡_, refl, ap, _∙_}
 use mathlib.Core.Bool.{false}
 use mathlib.Core.List.{List, [], _∷_}
 use mathlib.Core.Logic.{_⊎_, inl, inr, _≢_, _↔_}
 use native.Mathlib.Omega.{arith}
 use lib.ListN.{length, take, getD}
 use Rattle.std.proofs.shelf.Lists.{getD-set-other}
-use Rattle.std.proofs.shelf.Tests.{cases-lt, cases-bool}
-use Rattle.std.proofs.shelf.Ways.{tells}
+use Rattle.std.proofs.shelf.Tests.{cases-bool, eqb-false}
 use Rattle.graphs.specs.declared.Link.{Link}
 use Rattle.graphs.specs.Graph.{In}
 use Rattle.graphs.specs.Forest.{Distinct, forest}
-use Rattle.graphs.proofs.Count.{Within}
 use Rattle.graphs.proofs.Kruskal.{forest-sub, forest-distinct}
+use Rattle.graphs.proofs.Change.{one-change}
 use Rattle.plans.specs.declared.Move.{Move}
-use Rattle.plans.specs.Places.{placeOf, placedAt, placeBefore, moved, movedBy, placesAt}
-use Rattle.plans.specs.Plan.{treeAt, among, Exchange, Ascending, Entry, entry, entries, exchanged, exchangedBy, replayed}
-use Rattle.plans.proofs.Orders.{strict-places}
+use Rattle.plans.specs.Places.{Scale, Lawful, valueOf, beforeBy, placeOf, placedAt, moved, movedBy, tableAt}
+use Rattle.plans.specs.Plan.{forestBy, treeBy, among, Exchange, Ascending, Entry, entry, entriesBy, exchanged, exchangedBy, replayed}
+use Rattle.plans.proofs.Orders.{strict-by}
 use Rattle.plans.proofs.Numbers.{numbers-in, ascending-numbers}
-use Rattle.plans.proofs.Exchange.{none-comes, exchange-later}
+use Rattle.plans.proofs.Exchange.{none-comes, one-exchange}
 use Rattle.plans.proofs.Replay.{replay-one, entry-names}
 
+pub valued-other : {V : Type 0} (none : V) (table : List V) (z : ℕ) (v : V) (k : ℕ) → k ≢ z → valueOf none (placedAt table z v) k ≡ valueOf none table k
+unfolding valueOf placedAt
+valued-other none table zero v k n = refl
+valued-other none table (suc z) v zero n = refl
+valued-other none table (suc z) v (suc k) n = getD-set-other table z k v none (λ e. n (ap suc e))
+
 pub placed-other : (places : List ℕ) (z p k : ℕ) → k ≢ z → placeOf (placedAt places z p) k ≡ placeOf places k
-unfolding placeOf placedAt
-placed-other places zero p k n = refl
-placed-other places (suc z) p zero n = refl
-placed-other places (suc z) p (suc k) n = getD-set-other places z k p 0 (λ e. n (ap suc e))
+placed-other places = valued-other 0 places
 
-module _ (places : List ℕ) (c : Move ℕ) where
-  -- The order of all other links stays.
-  pub moved-agree : (j k : ℕ) → j ≢ c .link → k ≢ c .link → placeBefore places j k ≡ placeBefore (moved places c) j k
-  moved-agree j k n m =
-      let p = placed-other places (c .link) (c .to) j n in
-      let q = placed-other places (c .link) (c .to) k m in
-      rw (p, q)
+-- A move keeps the order of all other links.
+pub moved-agree : {V : Type 0} (s : Scale V) (table : List V) (c : Move V) (j k : ℕ) → j ≢ c .link → k ≢ c .link
+    → beforeBy s table j k ≡ beforeBy s (moved table c) j k
+moved-agree s table c j k n m =
+    let p = valued-other (s .none) table (c .link) (c .to) j n in
+    let q = valued-other (s .none) table (c .link) (c .to) k m in
+    rw (p, q)
 
-  exchange-sym : {z : ℕ} {xs ys : List ℕ} → Exchange z xs ys → Exchange z ys xs
-  exchange-sym x = record {
-    leaves = x .comes;
-    comes = x .leaves;
-    touches = λ k g. elim (x .touches k (elim g [ inl h ↦ inr h | inr h ↦ inl h ])) [ inl h ↦ inr h | inr h ↦ inl h ];
-  }
+module _ {V : Type 0} (s : Scale V) (l : Lawful s) (es : List Link) (d : Distinct es) where
+  -- A move exchanges at most one link of the least forest for one other, and one of the two is its own.
+  pub move-exchanges : (table : List V) (c : Move V) → Exchange (c .link) (treeBy s table es) (treeBy s (moved table c) es)
+  move-exchanges table c =
+      one-exchange (c .link) (forestBy s table es) (forestBy s (moved table c) es)
+      (one-change (c .link) (strict-by s l table) (strict-by s l (moved table c))
+      (record { same = λ j k p q. moved-agree s table c j k (eqb-false j (c .link) p) (eqb-false k (c .link) q) })
+      (record { distinct = d }))
 
-  -- A change exchanges at most one link of the least forest for one other, and one of the two is its own.
-  pub change-exchanges : (n : ℕ) (es : List Link) → Within n es → Distinct es
-      → Exchange (c .link) (treeAt places es) (treeAt (moved places c) es)
-  change-exchanges n es w d =
-      let z = c .link in
-      let P = moved places c in
-      let same : (k : ℕ) → k ≢ z → placeOf P k ≡ placeOf places k = placed-other places z (c .to) in
-      elim (cases-lt (placeOf P z) (placeOf places z)) [
-        | inl h ↦ exchange-sym (exchange-later (placeBefore P) (placeBefore places) (strict-places P) (strict-places places) z
-            (λ j k u v. sym (moved-agree j k u v)) (λ k u t. let s = same k u in grind (arith, tells)) es d n w)
-        | inr h ↦ exchange-later (placeBefore places) (placeBefore P) (strict-places places) (strict-places P) z
-            moved-agree (λ k u t. let s = same k u in grind (arith, tells)) es d n w
-      ]
+  pub tree-ascending : (table : List V) → Ascending (treeBy s table es)
+  tree-ascending table = ascending-numbers (forestBy s table es) (forest-distinct (beforeBy s table) (strict-by s l table) es d)
 
--- The links are between nodes 1 to n, and are numbered apart and from 1.
-module _ (n : ℕ) (es : List Link) (w : Within n es) (d : Distinct es) (numbered : (e : Link) → In e es → 1 ≤ e .number) where
-  pub tree-ascending : (places : List ℕ) → Ascending (treeAt places es)
-  tree-ascending places =
-      ascending-numbers (forest (placeBefore places) es) (forest-distinct (placeBefore places) (strict-places places) es d)
+  module _ (numbered : (e : Link) → In e es → 1 ≤ e .number) where
+    pub tree-numbered : (table : List V) → among 0 (treeBy s table es) ≡ false
+    tree-numbered table =
+        elim (cases-bool (among 0 (treeBy s table es))) [
+          | inr h ↦ h
+          | inl h ↦
+              let r = numbers-in 0 (forestBy s table es) h in
+              absurd (let p = numbered (r .0) (forest-sub (beforeBy s table) es (r .0) (r .1)) in omega (arith, r .2))
+        ]
 
-  pub tree-numbered : (places : List ℕ) → among 0 (treeAt places es) ≡ false
-  tree-numbered places =
-      elim (cases-bool (among 0 (treeAt places es))) [
-        | inr h ↦ h
-        | inl h ↦
-            let r = numbers-in 0 (forest (placeBefore places) es) h in
-            absurd (let p = numbered (r .0) (forest-sub (placeBefore places) es (r .0) (r .1)) in omega (arith, r .2))
-      ]
+    -- An entry replayed on the tree before its move gives the tree after it.
+    pub move-replayed : (table : List V) (c : Move V)
+        → exchanged (treeBy s table es) (entry (treeBy s table es) (treeBy s (moved table c) es)) ≡ treeBy s (moved table c) es
+    move-replayed table c =
+        replay-one (treeBy s table es) (treeBy s (moved table c) es) (tree-ascending table) (tree-ascending (moved table c))
+        (tree-numbered table) (tree-numbered (moved table c)) (c .link) (move-exchanges table c)
 
-  -- An entry replayed on the tree before its change gives the tree after it.
-  pub change-replayed : (places : List ℕ) (c : Move ℕ)
-      → exchanged (treeAt places es) (entry (treeAt places es) (treeAt (moved places c) es)) ≡ treeAt (moved places c) es
-  change-replayed places c =
-      replay-one (treeAt places es) (treeAt (moved places c) es) (tree-ascending places) (tree-ascending (moved places c))
-      (tree-numbered places) (tree-numbered (moved places c)) (c .link) (change-exchanges places c n es w d)
+    -- A plan replayed for t moves gives the tree at moment t.
+    pub plan-replayed : (table : List V) (batch : List (Move V)) (t : ℕ)
+        → replayed (treeBy s table es) (entriesBy s table es batch) t ≡ treeBy s (tableAt table batch t) es
+    unfolding movedBy entriesBy exchangedBy
+    plan-replayed table batch zero = refl
+    plan-replayed table [] (suc t) = refl
+    plan-replayed table (c ∷ cs) (suc t) =
+        ap (λ (T : List ℕ). exchangedBy T (take t (entriesBy s (moved table c) es cs))) (move-replayed table c)
+        ∙ plan-replayed (moved table c) cs t
 
-  -- A plan replayed for t changes gives the tree at moment t.
-  pub plan-replayed : (places : List ℕ) (batch : List (Move ℕ)) (t : ℕ)
-      → replayed (treeAt places es) (entries places es batch) t ≡ treeAt (placesAt places batch t) es
-  unfolding movedBy entries exchangedBy
-  plan-replayed places batch zero = refl
-  plan-replayed places [] (suc t) = refl
-  plan-replayed places (c ∷ cs) (suc t) =
-      ap (λ (T : List ℕ). exchangedBy T (take t (entries (moved places c) es cs))) (change-replayed places c)
-      ∙ plan-replayed (moved places c) cs t
+    -- Entry t + 1 is between moments t and t + 1; if it is not (0, 0), it names the link of its move.
+    pub entry-at : (table : List V) (batch : List (Move V)) (t : ℕ) (none : Entry) → t < length batch
+        → getD (entriesBy s table es batch) t none ≡ entry (treeBy s (tableAt table batch t) es) (treeBy s (tableAt table batch (suc t)) es)
+    unfolding movedBy entriesBy
+    entry-at table [] t none h = absurd (omega arith)
+    entry-at table (c ∷ cs) zero none h = refl
+    entry-at table (c ∷ cs) (suc t) none h = entry-at (moved table c) cs t none (omega arith)
 
-  pub entries-length : (places : List ℕ) (batch : List (Move ℕ)) → length (entries places es batch) ≡ length batch
-  unfolding entries
-  entries-length places [] = refl
-  entries-length places (c ∷ cs) = ap suc (entries-length (moved places c) cs)
+    pub plan-names : (table : List V) (batch : List (Move V)) (t : ℕ) (none : Entry) (move : Move V) → t < length batch
+        → (getD (entriesBy s table es batch) t none ≡ (0, 0) → ⊥)
+        → (getD (entriesBy s table es batch) t none .0 ≡ getD batch t move .link)
+        ⊎ (getD (entriesBy s table es batch) t none .1 ≡ getD batch t move .link)
+    unfolding entriesBy
+    plan-names table [] t none move h = absurd (omega arith)
+    plan-names table (c ∷ cs) zero none move h =
+        entry-names (treeBy s table es) (treeBy s (moved table c) es) (tree-ascending table) (tree-ascending (moved table c))
+        (tree-numbered table) (tree-numbered (moved table c)) (c .link) (move-exchanges table c)
+    plan-names table (c ∷ cs) (suc t) none move h = plan-names (moved table c) cs t none move (omega arith)
 
-  -- Entry t + 1 is between moments t and t + 1; if it is not (0, 0), it names the link of its change.
-  pub entry-at : (places : List ℕ) (batch : List (Move ℕ)) (t : ℕ) (none : Entry) → t < length batch
-      → getD (entries places es batch) t none ≡ entry (treeAt (placesAt places batch t) es) (treeAt (placesAt places batch (suc t)) es)
-  unfolding movedBy entries
-  entry-at places [] t none h = absurd (omega arith)
-  entry-at places (c ∷ cs) zero none h = refl
-  entry-at places (c ∷ cs) (suc t) none h = entry-at (moved places c) cs t none (omega arith)
+    -- An entry has both numbers or none.
+    pub entry-pairs : (old new : List V)
+        → (entry (treeBy s old es) (treeBy s new es) .0 ≡ 0) ↔ (entry (treeBy s old es) (treeBy s new es) .1 ≡ 0)
+    entry-pairs old new = (
+      none-comes (beforeBy s old) (beforeBy s new) (strict-by s l old) (strict-by s l new) es d (tree-numbered old),
+      none-comes (beforeBy s new) (beforeBy s old) (strict-by s l new) (strict-by s l old) es d (tree-numbered new),
+    )
 
-  pub plan-names : (places : List ℕ) (batch : List (Move ℕ)) (t : ℕ) (none : Entry) (change : Move ℕ) → t < length batch
-      → (getD (entries places es batch) t none ≡ (0, 0) → ⊥)
-      → (getD (entries places es batch) t none .0 ≡ getD batch t change .link)
-      ⊎ (getD (entries places es batch) t none .1 ≡ getD batch t change .link)
-  unfolding entries
-  plan-names places [] t none change h = absurd (omega arith)
-  plan-names places (c ∷ cs) zero none change h =
-      entry-names (treeAt places es) (treeAt (moved places c) es) (tree-ascending places) (tree-ascending (moved places c))
-      (tree-numbered places) (tree-numbered (moved places c)) (c .link) (change-exchanges places c n es w d)
-  plan-names places (c ∷ cs) (suc t) none change h = plan-names (moved places c) cs t none change (omega arith)
+    pub plan-pairs : (table : List V) (batch : List (Move V)) (t : ℕ) (none : Entry) → t < length batch
+        → (getD (entriesBy s table es batch) t none .0 ≡ 0) ↔ (getD (entriesBy s table es batch) t none .1 ≡ 0)
+    plan-pairs table batch t none h =
+        rw (entry-at table batch t none h) (entry-pairs (tableAt table batch t) (tableAt table batch (suc t)))
 
-  -- An entry has both numbers or none.
-  pub entry-pairs : (ps qs : List ℕ) → (entry (treeAt ps es) (treeAt qs es) .0 ≡ 0) ↔ (entry (treeAt ps es) (treeAt qs es) .1 ≡ 0)
-  entry-pairs ps qs = (
-    none-comes (placeBefore ps) (placeBefore qs) (strict-places ps) es d (tree-numbered ps),
-    none-comes (placeBefore qs) (placeBefore ps) (strict-places qs) es d (tree-numbered qs),
-  )
+pub entries-length : {V : Type 0} (s : Scale V) (es : List Link) (table : List V) (batch : List (Move V)) → length (entriesBy s table es batch) ≡ length batch
+unfolding entriesBy
+entries-length s es table [] = refl
+entries-length s es table (c ∷ cs) = ap suc (entries-length s es (moved table c) cs)
 
-  pub plan-pairs : (places : List ℕ) (batch : List (Move ℕ)) (t : ℕ) (none : Entry) → t < length batch
-      → (getD (entries places es batch) t none .0 ≡ 0) ↔ (getD (entries places es batch) t none .1 ≡ 0)
-  plan-pairs places batch t none h =
-      rw (entry-at places batch t none h) (entry-pairs (placesAt places batch t) (placesAt places batch (suc t)))
+-- The table at the next moment.
+pub table-next : {V : Type 0} (table : List V) (batch : List (Move V)) (t : ℕ) (move : Move V) → t < length batch
+    → tableAt table batch (suc t) ≡ moved (tableAt table batch t) (getD batch t move)
+unfolding movedBy
+table-next table [] t move h = absurd (omega arith)
+table-next table (c ∷ cs) zero move h = refl
+table-next table (c ∷ cs) (suc t) move h = table-next (moved table c) cs t move (omega arith)

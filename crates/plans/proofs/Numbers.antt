@@ -1,18 +1,22 @@
 -- The ascending numbers of links.
 use Prim.Native.Nat.{ℕ}
-use mathlib.Core.Path.{_≡_, refl, sym}
+use mathlib.Core.Path.{_≡_, refl, sym, _∙_}
 use mathlib.Core.Bool.{true, false}
 use mathlib.Core.List.{List, [], _∷_, map}
-use mathlib.Core.Logic.{inl, inr, _≢_}
+use mathlib.Core.Logic.{inl, inr}
 use native.Mathlib.Omega.{arith}
 use lib.Dec.{eqb, ltb}
-use Rattle.std.proofs.shelf.Tests.{or-cases, or-left, or-right, eqb-true, eq-eqb, ltb-true, both-ways}
+use lib.ListN.{length, length-map}
+use Rattle.std.proofs.shelf.Tests.{or-cases, or-left, or-right, eqb-true, eq-eqb, ltb-true, both-ways, cases-bool}
 use Rattle.graphs.specs.declared.Link.{Link}
 use Rattle.graphs.specs.Graph.{In, here, later}
 use Rattle.graphs.specs.Forest.{Distinct, ordered}
+use Rattle.graphs.specs.Thin.{holds}
+use Rattle.graphs.proofs.Walks.{holds-in, held}
+use Rattle.graphs.proofs.Trees.{ordered-length}
 use Rattle.graphs.proofs.Lists.{Sorted, ordered-in, in-ordered, sorted-ordered}
 use Rattle.graphs.proofs.Orders.{strict-ltb}
-use Rattle.plans.specs.Plan.{numbers, among, Gone, Ascending}
+use Rattle.plans.specs.Plan.{numbers, among, Ascending}
 
 among-map : {f : Link} {es : List Link} → In f es → among (f .number) (map (λ (e : Link). e .number) es) ≡ true
 unfolding among
@@ -41,12 +45,21 @@ pub numbers-in : (k : ℕ) (es : List Link) → among k (numbers es) ≡ true �
 unfolding numbers
 numbers-in k es h = let r = map-among k (ordered ltb es) h in (r .0, ordered-in ltb es (r .0) (r .1), r .2)
 
--- A number that goes is that of a link of the first list.
-pub gone-edge : (A B : List Link) (k : ℕ) → Gone (numbers A) (numbers B) k
-    → (f : Link) × In f A × (f .number ≡ k) × ((g : Link) → In g B → g .number ≢ k)
-gone-edge A B k g =
-    let r = numbers-in k A (g .0) in
-    (r .0, r .1, r .2, λ f i e. both-ways (among k (numbers B)) (g .1) (rw e at (in-numbers i)))
+-- A number is among those of the links exactly if one of the links has it.
+pub among-holds : (k : ℕ) (es : List Link) → among k (numbers es) ≡ holds k es
+among-holds k es =
+    elim (cases-bool (holds k es)) [
+      | inl h ↦ let r = holds-in k es h in rw (r .2) at (in-numbers (r .1)) ∙ sym h
+      | inr h ↦ elim (cases-bool (among k (numbers es))) [
+        | inr u ↦ u ∙ sym h
+        | inl u ↦ let r = numbers-in k es u in absurd (both-ways (holds k es) h (held (r .1) (r .2)))
+      ]
+    ]
+
+-- The ascending numbers are as many as the links.
+pub numbers-length : (es : List Link) → length (numbers es) ≡ length es
+unfolding numbers
+numbers-length es = length-map (ordered ltb es) (λ (e : Link). e .number) ∙ ordered-length ltb es
 
 pub ascending-numbers : (es : List Link) → Distinct es → Ascending (numbers es)
 unfolding numbers

@@ -1,5 +1,5 @@
 -- The least forest at each moment of a batch, and what each change exchanges.
-use Prim.Native.Nat.{ℕ, _<_, _≤_}
+use Prim.Native.Nat.{ℕ, _<_}
 use mathlib.Core.Path.{_≡_}
 use mathlib.Core.Logic.{_⊎_}
 use mathlib.Core.Bool.{Bool, true, false, cond, _||_}
@@ -7,22 +7,21 @@ use mathlib.Core.List.{List, [], _∷_, map}
 use lib.Dec.{eqb, ltb}
 use lib.ListN.{take}
 use Rattle.graphs.specs.declared.Link.{Link}
-use Rattle.graphs.specs.Graph.{joins}
-use Rattle.graphs.specs.Forest.{ordered, forest, filtered}
+use Rattle.graphs.specs.Forest.{ordered, forest}
 use Rattle.plans.specs.declared.Move.{Move}
-use Rattle.plans.specs.Places.{placeOf, placeBefore, moved}
+use Rattle.plans.specs.Places.{Scale, beforeBy, byPlace, moved}
 
--- The least forest of the links at some places.
-abbrev pub forestAt : List ℕ → List Link → List Link
-forestAt places es = forest (placeBefore places) es
+-- The least forest of the links in the order of a table.
+abbrev pub forestBy : {V : Type 0} → Scale V → List V → List Link → List Link
+forestBy s table es = forest (beforeBy s table) es
 
 -- The links' numbers, ascending.
 unfoldable pub numbers : List Link → List ℕ
 numbers es = map (λ (e : Link). e .number) (ordered ltb es)
 
 -- The numbers of the least forest, ascending.
-abbrev pub treeAt : List ℕ → List Link → List ℕ
-treeAt places es = numbers (forestAt places es)
+abbrev pub treeBy : {V : Type 0} → Scale V → List V → List Link → List ℕ
+treeBy s table es = numbers (forestBy s table es)
 
 -- Whether k is one of the numbers.
 unfoldable pub among : ℕ → List ℕ → Bool
@@ -51,10 +50,10 @@ Entry = ℕ × ℕ
 abbrev pub entry : List ℕ → List ℕ → Entry
 entry xs ys = (firstBut xs ys, firstBut ys xs)
 
--- One entry for each change.
-unfoldable pub entries : List ℕ → List Link → List (Move ℕ) → List Entry
-entries places es [] = []
-entries places es (c ∷ cs) = entry (treeAt places es) (treeAt (moved places c) es) ∷ entries (moved places c) es cs
+-- A plan: one entry for each move of a batch.
+unfoldable pub entriesBy : {V : Type 0} → Scale V → List V → List Link → List (Move V) → List Entry
+entriesBy s table es [] = []
+entriesBy s table es (c ∷ cs) = entry (treeBy s table es) (treeBy s (moved table c) es) ∷ entriesBy s (moved table c) es cs
 
 -- Numbers in ascending order, none twice.
 abbrev pub Ascending : List ℕ → Type 0
@@ -84,10 +83,12 @@ exchangedBy xs (e ∷ es) = exchangedBy (exchanged xs e) es
 abbrev pub replayed : List ℕ → List Entry → ℕ → List ℕ
 replayed start es t = exchangedBy start (take t es)
 
--- The links join all nodes from 1 to n.
-abbrev pub AllJoined : ℕ → List Link → Type 0
-AllJoined n es = (x y : ℕ) → 1 ≤ x → x ≤ n → 1 ≤ y → y ≤ n → joins es x y ≡ true
+-- The same by places.
+abbrev pub forestAt : List ℕ → List Link → List Link
+forestAt places es = forestBy byPlace places es
 
--- The present links: those placed before the place of absent ones.
-abbrev pub present : List ℕ → ℕ → List Link → List Link
-present places absent es = filtered (λ e. ltb (placeOf places (e .number)) absent) es
+abbrev pub treeAt : List ℕ → List Link → List ℕ
+treeAt places es = treeBy byPlace places es
+
+abbrev pub entries : List ℕ → List Link → List (Move ℕ) → List Entry
+entries places es cs = entriesBy byPlace places es cs

@@ -1,0 +1,10 @@
+pub mod Counts
+pub mod Packed
+pub mod Table
+pub mod Classes
+pub mod Greedy
+pub mod Rooted
+pub mod Sinking
+pub mod Indexing
+pub mod Order
+pub mod InOrder

@@ -1,0 +1,3 @@
+pub mod Words
+pub mod Union
+pub mod Heap

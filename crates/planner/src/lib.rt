@@ -1,0 +1,8 @@
+//! The book: a network with its least tree, over lent tables.
+mod book;
+mod ranks;
+mod tables;
+mod tree;
+
+pub use book::Book;
+pub use tables::Tables;
