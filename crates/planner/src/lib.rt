@@ -1,8 +1,10 @@
 //! The book: a network with its least tree, over lent tables.
 mod book;
+mod drawn;
 mod ranks;
 mod tables;
 mod tree;
 
 pub use book::Book;
+pub use drawn::Drawn;
 pub use tables::Tables;
