@@ -42,11 +42,11 @@ module _ (ws : List ℕ) (i n x y : ℕ) where
       let l2 = length-set (set ws (i * 3) n) (i * 3 + 1) x in
       let l3 = length-set (set (set ws (i * 3) n) (i * 3 + 1) x) (i * 3 + 2) y in
       let e1 : getD written (i * 3) 0 ≡ n =
-          getD-set-other (set (set ws (i * 3) n) (i * 3 + 1) x) (i * 3 + 2) (i * 3) y 0 (omega arith)
-          ∙ getD-set-other (set ws (i * 3) n) (i * 3 + 1) (i * 3) x 0 (omega arith) ∙ getD-set-same ws (i * 3) n 0 (omega arith) in
+      getD-set-other (set (set ws (i * 3) n) (i * 3 + 1) x) (i * 3 + 2) (i * 3) y 0 (omega arith)
+      ∙ getD-set-other (set ws (i * 3) n) (i * 3 + 1) (i * 3) x 0 (omega arith) ∙ getD-set-same ws (i * 3) n 0 (omega arith) in
       let e2 : getD written (i * 3 + 1) 0 ≡ x =
-          getD-set-other (set (set ws (i * 3) n) (i * 3 + 1) x) (i * 3 + 2) (i * 3 + 1) y 0 (omega arith)
-          ∙ getD-set-same (set ws (i * 3) n) (i * 3 + 1) x 0 (omega arith) in
+      getD-set-other (set (set ws (i * 3) n) (i * 3 + 1) x) (i * 3 + 2) (i * 3 + 1) y 0 (omega arith)
+      ∙ getD-set-same (set ws (i * 3) n) (i * 3 + 1) x 0 (omega arith) in
       let e3 : getD written (i * 3 + 2) 0 ≡ y = getD-set-same (set (set ws (i * 3) n) (i * 3 + 1) x) (i * 3 + 2) y 0 (omega arith) in
       let e : linkIn written i ≡ link n x y = cc in
       counted-set (linkIn ws) (linkIn written) (length written / 3) (length ws / 3) i (omega arith)

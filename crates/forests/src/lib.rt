@@ -7,8 +7,6 @@ mod kruskal;
 mod union_find;
 mod words;
 
-pub use by_place::ByPlace;
-pub use by_place::PlaceRanking;
 pub use by_place::earlier;
 pub use by_place::place_of;
 pub use by_place::sort_by_place;
@@ -16,7 +14,6 @@ pub use heap::Ranking;
 pub use heap::sort;
 pub use kruskal::keep;
 pub use kruskal::keep_on;
-pub use union_find::find;
 pub use union_find::roots_are_labels;
 pub use union_find::start;
 pub use union_find::unite;

@@ -7,7 +7,7 @@ use mathlib.Core.Logic.{_⊎_, inl, inr}
 use native.Mathlib.Omega.{arith}
 use lib.Dec.{eqb, ltb}
 use lib.ListN.{length, getD}
-use Rattle.std.proofs.shelf.Tests.{cases-bool, both-ways}
+use Rattle.std.proofs.shelf.Tests.{cases-bool, cond-false, both-ways}
 use Rattle.std.proofs.shelf.Ways.{tells}
 use Rattle.std.specs.Options.{mapped}
 use Rattle.std.specs.declared.option.Option.{Option}
@@ -70,6 +70,19 @@ fits n es l t w e =
       work = grind (arith, tells);
       ends = m;
     }
+
+pub fit-none : (n : ℕ) (es : List Ends) (l t w : ℕ) → Fit n es l t w → tablesFault n es l t w ≡ None
+fit-none n es l t w f =
+    let a : (eqb n 0 || ltb 4096 n) ≡ false = (let u = f .some in let v = f .nodes in grind (arith, tells)) in
+    let b : ltb 16384 (length es) ≡ false = (let u = f .links in grind (arith, tells)) in
+    let c : misfit n (length es) l t w ≡ false = (let u = f .same in let v = f .tree in let x = f .work in grind (arith, tells)) in
+    cond-false (eqb n 0 || ltb 4096 n) _ _ a ∙ cond-false (ltb 16384 (length es)) _ _ b ∙ cond-false (misfit n (length es) l t w) _ _ c ∙ ap (mapped ofEnds) (f .ends)
+
+-- Longer tables fit too.
+pub longer : (n : ℕ) (es : List Ends) (l t w u v : ℕ) → tablesFault n es l t w ≡ None → n - 1 ≤ u → 64 * (n + length es) ≤ v → tablesFault n es l u v ≡ None
+longer n es l t w u v e p q =
+    let f = fits n es l t w e in
+    fit-none n es l u v (record { some = f .some; nodes = f .nodes; links = f .links; same = f .same; tree = p; work = q; ends = f .ends })
 
 -- The two ends of a link that has no fault.
 end-sound : (n k : ℕ) (e : Ends) → endFault n k e ≡ None → (1 ≤ e .a .0) × (e .a .0 ≤ n) × (1 ≤ e .b .0) × (e .b .0 ≤ n)

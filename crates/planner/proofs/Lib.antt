@@ -5,3 +5,13 @@ pub mod Listing
 pub mod Present
 pub mod Fits
 pub mod LeastTree
+pub mod Commits
+pub mod Running
+pub mod Numbering
+pub mod Judging
+pub mod Weights
+pub mod Tracing
+pub mod Traced
+pub mod Pooled
+pub mod Drawing
+pub mod Granting

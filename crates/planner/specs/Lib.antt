@@ -1,3 +1,5 @@
 pub mod Open
 pub mod Tree
 pub mod Draw
+pub mod Moves
+pub mod Pool

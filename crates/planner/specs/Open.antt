@@ -19,7 +19,7 @@ use Rattle.graphs.specs.Spanning.{allJoined}
 use Rattle.plans.specs.Network.{graphOf, presentLinks}
 
 -- A table with a list written over its front, and the rest kept.
-abbrev pub fronted : List ℕ → List ℕ → List ℕ
+abbrev pub fronted : {X : Type 0} → List X → List X → List X
 fronted xs table = xs ++ drop (length xs) table
 
 abbrev pub ofEnds : EndFault → OpenFault

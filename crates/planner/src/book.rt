@@ -10,6 +10,7 @@ use network::Ends;
 use network::LinkState;
 use weights::Weight;
 
+mod draw;
 mod open;
 
 /// A network over lent tables, opened or refused. Where its open was granted, the network is sound: its counts, tables

@@ -19,7 +19,7 @@ use Rattle.plans.specs.Network.{isBefore, isLevel, isAbsent, standings, byStan
 use Rattle.plans.specs.Same.{pool}
 use Rattle.plans.specs.Theorems.{Same-order}
 use Rattle.plans.proofs.Standings.{graph-numbers, standings-length}
-use Rattle.plans.proofs.Same.{Known, Alike, match-from, match-parts, match-moves, tree-same, entries-same, tear-same, work-same}
+use Rattle.plans.proofs.Same.{Known, Alike, match-from, match-parts, match-moves, tree-same, entries-same, torn-same, tear-same, work-same}
 
 -- How two places stand to each other, as tests.
 pub compared-before : (a b : ℕ) → ltb a b ≡ isBefore (compared a b)
@@ -57,6 +57,9 @@ same-order {W} side n ends links batch places moves many f =
       plan = entries-same byPlace (byStanding side) alike (length places) places (standings links) (both .0) refl (graphOf ends) known cs;
       work = work-same byPlace (byStanding side) alike (length places) places (standings links) (both .0) refl
           (record { nodes = n; links = graphOf ends }) known moves (movesOf links batch) cs;
+      start = λ absent a. torn-same byPlace (byStanding side) alike (length places) (λ p. leb absent p) (λ u. isAbsent u)
+          (λ x y r. rw (r .left, r .right) (a (r .index) (r .below)))
+          places (standings links) (both .0) refl (graphOf ends) known;
       tear = λ absent a. tear-same byPlace (byStanding side) alike (length places) (λ p. leb absent p) (λ u. isAbsent u)
           (λ x y r. rw (r .left, r .right) (a (r .index) (r .below)))
           places (standings links) (both .0) refl (graphOf ends) known cs;

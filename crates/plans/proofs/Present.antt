@@ -133,6 +133,7 @@ module _ {W : Type 0} (side : W → W → Side) (o : Sided side) (ends : List En
       many = joined-length n (graphOf ends) w (graph-distinct 1 ends) (linkBefore side links)
           (strict-by (byStanding side) (lawful-standing side o) (standings links)) some .0 a;
       joined = joined-iff links;
+      torn = joined-torn links;
       theirs = whole-forest n w links;
       parted = parted-tear 1 links;
     }

@@ -158,7 +158,7 @@ module _ {V U : Type 0} (s : Scale V) (s′ : Scale U) {R : V → U → Type 0} 
         ap₂ (λ (a b : Bool). a || b) (tests _ _ (value-same T T′ t l k (r .0) (r .1)))
         (late-same T T′ t l ks (λ j a. h j (or-right (eqb j k) (among j ks) a)))
 
-    torn-same : (T : List V) (T′ : List U) → Match R T T′ → length T ≡ m → (es : List Link) → Known m es → tornBy test s T es ≡ tornBy test′ s′ T′ es
+    pub torn-same : (T : List V) (T′ : List U) → Match R T T′ → length T ≡ m → (es : List Link) → Known m es → tornBy test s T es ≡ tornBy test′ s′ T′ es
     torn-same T T′ t l es known =
         late-same T T′ t l (treeBy s T es) (λ k a.
         let r = numbers-in k (forestBy s T es) a in

@@ -1,7 +1,7 @@
 -- What is proved of plans and work, as statements about a network.
 use Prim.Native.Nat.{ℕ, suc, _+_, _*_, _^_, _≤_, _<_}
 use mathlib.Core.Path.{_≡_}
-use mathlib.Core.Bool.{true, cond}
+use mathlib.Core.Bool.{true, not, cond}
 use mathlib.Core.List.{List, [], _++_}
 use mathlib.Core.Logic.{_⊎_, _↔_}
 use lib.Dec.{ltb}
@@ -14,14 +14,14 @@ use Rattle.network.specs.declared.types.Change.{Change}
 use Rattle.graphs.specs.declared.Link.{Link}
 use Rattle.graphs.specs.Graph.{In}
 use Rattle.graphs.specs.Forest.{Distinct, forest, uptos}
-use Rattle.graphs.specs.Spanning.{Within, AllJoined, SpanningTree}
+use Rattle.graphs.specs.Spanning.{Within, AllJoined, allJoined, SpanningTree}
 use Rattle.graphs.specs.Thin.{Block}
 use Rattle.plans.specs.declared.Move.{Move}
 use Rattle.plans.specs.Places.{movedBy}
 use Rattle.plans.specs.Plan.{Entry, replayed, treeAt, entries, treeBy, entriesBy, Exchange}
 use Rattle.plans.specs.Work.{half, thinnedBy, work, doublings}
-use Rattle.plans.specs.Tears.{firstTear}
-use Rattle.plans.specs.Network.{graphOf, standings, standingAt, isAt, linkBefore, presentLinks, leastForest, leastTree, linkOf, changedBy, linksAt, movesOf, plan, workCount, partedAt, byStanding, tearOf}
+use Rattle.plans.specs.Tears.{tornBy, tornAt, firstTear}
+use Rattle.plans.specs.Network.{graphOf, standings, standingAt, isAt, linkBefore, presentLinks, leastForest, leastTree, linkOf, changedBy, linksAt, movesOf, plan, workCount, partedAt, byStanding, isAbsent, tearOf}
 use Rattle.plans.specs.Same.{Faithful, AbsentAt}
 
 -- The entry of no exchange.
@@ -85,6 +85,7 @@ pub record Absentees {W : Type 0} (side : W → W → Side) (n : ℕ) (ends : Li
   pub joined : AllJoined n (presentLinks links (graphOf ends))
       ↔ ((f : Link) → In f (forest (linkBefore side links) (graphOf ends)) → isAt (standingAt links (f .number)) ≡ true)
   pub theirs : AllJoined n (presentLinks links (graphOf ends)) → forest (linkBefore side links) (graphOf ends) ≡ leastForest side ends links
+  pub torn : allJoined n (presentLinks links (graphOf ends)) ≡ not (tornBy (λ u. isAbsent u) (byStanding side) (standings links) (graphOf ends))
   pub parted : (batch : List (Change W))
       → partedAt n ends links batch ≡ cond (ltb (tearOf side ends links batch) (length batch)) (1 + tearOf side ends links batch) 0
 
@@ -105,12 +106,14 @@ Tree-least {W} side = (n : ℕ) (ends : List Ends)
     → (links : List (LinkState W)) → AllJoined n (presentLinks links (graphOf ends)) → Least side n ends links
 
 -- Same order, same plan: where places are faithful to standings, the tree at each moment, the plan and the work by places are those by standings;
--- and so is the first tear, if the absent place is.
+-- and so is whether the least forest holds an absent link before the batch, and the first change after which it does, if the absent place is.
 pub record SamePlan {W : Type 0} (side : W → W → Side) (n : ℕ) (ends : List Ends) (links : List (LinkState W)) (batch : List (Change W))
     (places : List ℕ) (moves : List (Move ℕ)) : Type 0 where
   pub tree : treeAt places (graphOf ends) ≡ treeBy (byStanding side) (standings links) (graphOf ends)
   pub plan : entries places (graphOf ends) moves ≡ plan side ends links batch
   pub work : work places (record { nodes = n; links = graphOf ends }) moves ≡ workCount side n ends links batch
+  pub start : (absent : ℕ) → AbsentAt absent links batch places moves
+      → tornAt absent places (graphOf ends) ≡ tornBy (λ u. isAbsent u) (byStanding side) (standings links) (graphOf ends)
   pub tear : (absent : ℕ) → AbsentAt absent links batch places moves → firstTear absent places (graphOf ends) moves ≡ tearOf side ends links batch
 
 abbrev pub Same-order : {W : Type 0} → (W → W → Side) → Type 0
