@@ -7,12 +7,13 @@ use mathlib.Core.List.{List, [], _∷_, _++_}
 use native.Mathlib.Omega.{arith}
 use lib.Dec.{eqb, leb, ltb}
 use lib.ListN.{length, take, drop}
-use Rattle.std.proofs.shelf.Tests.{cases-bool, both-ways, or-cases, or-left, or-right, eqb-true, cond-true, cond-false}
+use Rattle.std.proofs.shelf.Tests.{cases-bool, both-ways, or-cases, or-left, or-right, eqb-true, leb-true, leb-false, cond-true, cond-false}
 use Rattle.std.proofs.shelf.Ways.{tells}
 use Rattle.graphs.specs.declared.Link.{Link}
 use Rattle.graphs.specs.Thin.{Block, holds, reduced}
 use Rattle.graphs.specs.Thinning.{merges}
-use Rattle.graphs.proofs.Walks.{holds-in}
+use Rattle.graphs.specs.Graph.{In}
+use Rattle.graphs.proofs.Walks.{in-holds, holds-in}
 use Rattle.graphs.proofs.Contract.{in-mergeable}
 use Rattle.plans.specs.declared.Move.{Move}
 use Rattle.plans.specs.Places.{placeOf, placeBefore, moved, movedBy}
@@ -37,6 +38,24 @@ some-late absent ps [] k a l = absurd (both-ways false refl a)
 some-late absent ps (x ∷ ks) k a l = elim (or-cases (eqb k x) (among k ks) a) [
   | inl t ↦ or-left (leb absent (placeOf ps x)) (late absent ps ks) (subst (λ y. leb absent (placeOf ps y) ≡ true) (eqb-true k x t) l)
   | inr t ↦ or-right (leb absent (placeOf ps x)) (late absent ps ks) (some-late absent ps ks k t l)
+]
+
+-- Whole means that each link of the least forest is placed before the absent place.
+pub whole-low : (absent : ℕ) (ps : List ℕ) (es : List Link) → tornAt absent ps es ≡ false → (f : Link) → In f (forestAt ps es) → placeOf ps (f .number) < absent
+whole-low absent ps es h f i = elim (cases-bool (leb absent (placeOf ps (f .number)))) [
+  | inl t ↦ absurd (both-ways (tornAt absent ps es) h (some-late absent ps (treeAt ps es) (f .number) (among-holds (f .number) (forestAt ps es) ∙ in-holds i) t))
+  | inr t ↦ leb-false absent (placeOf ps (f .number)) t
+]
+
+pub low-whole : (absent : ℕ) (ps : List ℕ) (es : List Link) → ((f : Link) → In f (forestAt ps es) → placeOf ps (f .number) < absent) → tornAt absent ps es ≡ false
+low-whole absent ps es h = elim (cases-bool (tornAt absent ps es)) [
+  | inl t ↦
+      let r = late-some absent ps (treeAt ps es) t in
+      let q = holds-in (r .0) (forestAt ps es) (sym (among-holds (r .0) (forestAt ps es)) ∙ r .1) in
+      let b = h (q .0) (q .1) in
+      let c = leb-true absent (placeOf ps (r .0)) (r .2) in
+      absurd (omega (arith, ap (placeOf ps) (q .2)))
+  | inr t ↦ t
 ]
 
 module _ (absent : ℕ) (places : List ℕ) (cs : List (Move ℕ)) (g : Block)

@@ -1,4 +1,4 @@
--- Leaves: a change on at most two links.
+-- A block of one change: what it exchanges on at most two links. And when the least forest holds an absent link.
 use Prim.Native.Nat.{ℕ, suc, _<_, _≤_}
 use mathlib.Core.Bool.{Bool, true, false, cond, _||_}
 use mathlib.Core.List.{List, [], _∷_}
@@ -25,6 +25,7 @@ winner places (e ∷ []) = 0
 winner places (e ∷ f ∷ []) = cond (crossing (e .a .0) (e .b .0) (f .a .0) (f .b .0)) (cond (placeBefore places (e .number) (f .number)) (e .number) (f .number)) 0
 winner places (e ∷ f ∷ g ∷ es) = 0
 
+-- No move.
 abbrev pub noMove : Move ℕ
 noMove = record { link = 0; to = 0 }
 
@@ -56,6 +57,6 @@ pub record Sound (n m : ℕ) (es : List Link) (cs : List (Move ℕ)) : Type 0 wh
   pub ascends : Ascends es
   pub ends : Nodes n es
 
--- The work of a batch (under a name that is no parameter's).
+-- The work of a batch, under a name that a contract can cite beside a parameter called work.
 abbrev pub total : List ℕ → Block → List (Move ℕ) → ℕ
 total places g cs = work places g cs

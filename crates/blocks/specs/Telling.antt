@@ -19,7 +19,7 @@ pub record Told (t r : Tally) (w : ℕ) (places : List ℕ) (es : List Link) (cs
   pub tells : (a : ℕ) → t .absent ≡ a → t .torn ≡ false → tornAt a places es ≡ false
       → (r .whole ≡ t .whole + firstTear a places es cs) × (r .torn ≡ ltb (firstTear a places es cs) (length cs))
 
--- One change, after which the places are these.
+-- From tally t, one change gives tally r, after which the places are these; the work stays.
 pub record Spoke (t r : Tally) (places : List ℕ) (es : List Link) : Type 0 where
   pub work : r .work ≡ t .work
   pub place : r .absent ≡ t .absent
@@ -27,3 +27,10 @@ pub record Spoke (t r : Tally) (places : List ℕ) (es : List Link) : Type 0 whe
   pub stays : t .torn ≡ true → (r .torn ≡ true) × (r .whole ≡ t .whole)
   pub tells : (a : ℕ) → t .absent ≡ a → t .torn ≡ false
       → (r .whole ≡ t .whole + cond (tornAt a places es) 0 1) × (r .torn ≡ tornAt a places es)
+
+-- What a batch answers of tears, if the least forest holds no link at the absent place or later before it: how many changes come before
+-- the first after which it does, and whether there is one.
+abbrev pub Tear : ℕ → List ℕ → List Link → List (Move ℕ) → Tally → Type 0
+Tear absent places es cs r =
+    tornAt absent places es ≡ false
+    → (r .whole ≡ firstTear absent places es cs) × (r .torn ≡ ltb (firstTear absent places es cs) (length cs))

@@ -1,9 +1,7 @@
 //! What each change of a batch exchanges in the least forest, by place numbers and over lent words: a recursion over blocks
 //! of changes, each with its graph thinned for them.
 ghost use mathlib.Core.Path.{_≡_};
-ghost use mathlib.Core.Bool.{false};
 ghost use Prim.Native.Nat.{ℕ, _+_, _-_, _*_, _^_, _<_, _≤_, min};
-ghost use lib.Dec.{ltb};
 ghost use lib.ListN.{length};
 ghost use Rattle.plans.specs.Places.{movedBy};
 ghost use Rattle.plans.specs.Plan.{entries};
@@ -12,7 +10,7 @@ ghost use Rattle.thinning.specs.Marks.{Blank};
 ghost use Rattle.blocks.specs.Words.{movesIn, entriesIn};
 ghost use Rattle.blocks.specs.Rooms.{Scratch};
 ghost use Rattle.blocks.specs.Leaf.{Sound, total};
-ghost use Rattle.plans.specs.Tears.{tornAt, firstTear};
+ghost use Rattle.blocks.specs.Telling.{Tear};
 
 mod block;
 mod leaf;
@@ -61,7 +59,7 @@ fn top_blocks(
     ensures places { λ _. ⌜ now (places .exit) ≡ movedBy (now (places .entry)) (movesIn (now (moves .entry))) ⌝ }
     ensures entries { λ _. ⌜ entriesIn (now (out .exit)) ≡ entries (now (places .entry)) (linksIn (now (links .entry))) (movesIn (now (moves .entry))) ⌝ }
     ensures count { λ r. ⌜ r .work ≡ total (now (places .entry)) (record { nodes = nodes; links = linksIn (now (links .entry)) }) (movesIn (now (moves .entry))) ⌝ }
-    ensures tear { λ r. ⌜ (tornAt absent (now (places .entry)) (linksIn (now (links .entry))) ≡ false → (r .whole ≡ firstTear absent (now (places .entry)) (linksIn (now (links .entry))) (movesIn (now (moves .entry)))) × (r .torn ≡ ltb (firstTear absent (now (places .entry)) (linksIn (now (links .entry))) (movesIn (now (moves .entry)))) (length (movesIn (now (moves .entry)))))) ⌝ }
+    ensures tear { λ r. ⌜ Tear absent (now (places .entry)) (linksIn (now (links .entry))) (movesIn (now (moves .entry))) r ⌝ }
 {
     let m = links.len() / 3;
     let k = moves.len() / 2;
@@ -112,7 +110,7 @@ pub fn batch(
     ensures places { λ _. ⌜ now (places .exit) ≡ movedBy (now (places .entry)) (movesIn (now (moves .entry))) ⌝ }
     ensures entries { λ _. ⌜ entriesIn (now (out .exit)) ≡ entries (now (places .entry)) (linksIn (now (links .entry))) (movesIn (now (moves .entry))) ⌝ }
     ensures count { λ r. ⌜ r .work ≡ total (now (places .entry)) (record { nodes = nodes; links = linksIn (now (links .entry)) }) (movesIn (now (moves .entry))) ⌝ }
-    ensures tear { λ r. ⌜ (tornAt absent (now (places .entry)) (linksIn (now (links .entry))) ≡ false → (r .whole ≡ firstTear absent (now (places .entry)) (linksIn (now (links .entry))) (movesIn (now (moves .entry)))) × (r .torn ≡ ltb (firstTear absent (now (places .entry)) (linksIn (now (links .entry))) (movesIn (now (moves .entry)))) (length (movesIn (now (moves .entry)))))) ⌝ }
+    ensures tear { λ r. ⌜ Tear absent (now (places .entry)) (linksIn (now (links .entry))) (movesIn (now (moves .entry))) r ⌝ }
 {
     let m = places.len();
     let (marks, rest) = work.split_at_mut(m + 1);

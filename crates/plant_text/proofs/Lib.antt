@@ -1,0 +1,6 @@
+pub mod Lines
+pub mod Telling
+pub mod Bodies
+pub mod Wholes
+pub mod Reserving
+pub mod Filling

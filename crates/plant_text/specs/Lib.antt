@@ -1,0 +1,5 @@
+pub mod Limits
+pub mod Line
+pub mod File
+pub mod Plant
+pub mod Room
