@@ -110,6 +110,7 @@ refused-batch n ends links batch s e w v x f a b c d h =
 pub record Grants {W : Type 0} (n : ℕ) (ends : List Ends) (links : List (LinkState W)) (batch : List (Change W)) (s e w : ℕ) : Type 0 where
   pub judged : batchFault n ends links batch s e w ≡ None
   pub changes : None ≡ changesFault 1 links batch
+  pub whole : partedAt n ends links batch ≡ 0
   pub after : joined n ends (changedBy links batch) ≡ true
 
 pub granted-batch : {W : Type 0} (n : ℕ) (ends : List Ends) (links : List (LinkState W)) (batch : List (Change W)) (s e w v count : ℕ)
@@ -122,6 +123,7 @@ granted-batch n ends links batch s e w v count a b c d j h =
       record {
         judged = judged n ends links batch s e w a b c d ∙ u .0;
         changes = sym (o .0);
+        whole = parted-none _ (o .1);
         after = joined-after 1 n ends links batch (omega arith) j (parted-none _ (o .1));
       },
       u .1,

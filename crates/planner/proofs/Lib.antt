@@ -15,3 +15,4 @@ pub mod Traced
 pub mod Pooled
 pub mod Drawing
 pub mod Granting
+pub mod Truths

@@ -3,3 +3,4 @@ pub mod Tree
 pub mod Draw
 pub mod Moves
 pub mod Pool
+pub mod Truth

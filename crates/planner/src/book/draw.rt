@@ -11,6 +11,7 @@ ghost use Rattle.std.specs.Options.{isSome};
 ghost use Rattle.std.specs.Results.{isOk};
 ghost use Rattle.plans.specs.Network.{changedBy, leastTree, plan};
 ghost use Rattle.planner.specs.Draw.{batchFault, drawFault, unless, counts};
+ghost use Rattle.planner.specs.Truth.{Truth};
 ghost use Rattle.planner.specs.Open.{tablesFault, networkFault, joined, fronted};
 use crate::book::Book;
 use crate::changes::change_links;
@@ -44,6 +45,7 @@ impl<'a, 'b, 'c, W: Weight> Book<'a, 'b, 'c, W> {
         ensures entries { λ r. ⌜ now (entries .exit) ≡ cond (isOk r) (fronted (plan (W·Ordered .side) (now (now (self .entry) .ends)) (now (now (self .entry) .links)) (now (batch .entry))) (now (entries .entry))) (now (entries .entry)) ⌝ }
         ensures links { λ r. ⌜ now (now (self .exit) .links) ≡ cond (isOk r) (changedBy (now (now (self .entry) .links)) (now (batch .entry))) (now (now (self .entry) .links)) ⌝ }
         ensures tree { λ r. ⌜ now (now (self .exit) .tree) ≡ cond (isOk r) (fronted (leastTree (W·Ordered .side) (now (now (self .entry) .ends)) (changedBy (now (now (self .entry) .links)) (now (batch .entry)))) (now (now (self .entry) .tree))) (now (now (self .entry) .tree)) ⌝ }
+        ensures truth { λ r. ⌜ Truth (W·Ordered .side) (now (self .entry) .n) (now (now (self .entry) .ends)) (now (now (self .entry) .links)) (now (batch .entry)) r ⌝ }
         ensures same { λ _. ⌜ (now (self .exit) .n ≡ now (self .entry) .n) × (now (now (self .exit) .ends) ≡ now (now (self .entry) .ends)) × (now (self .exit) .refusal ≡ now (self .entry) .refusal) ⌝ }
         ensures lent { λ _. ⌜ (name (now (self .exit) .links) ≡ name (now (self .entry) .links)) × (name (now (self .exit) .tree) ≡ name (now (self .entry) .tree)) ⌝ }
     {
@@ -99,6 +101,7 @@ fn draw_batch<W: Ordered>(
     ensures entries { λ r. ⌜ now (entries .exit) ≡ cond (isOk r) (fronted (plan (W·Ordered .side) (now (ends .entry)) (now (links .entry)) (now (batch .entry))) (now (entries .entry))) (now (entries .entry)) ⌝ }
     ensures links { λ r. ⌜ now (links .exit) ≡ cond (isOk r) (changedBy (now (links .entry)) (now (batch .entry))) (now (links .entry)) ⌝ }
     ensures tree { λ r. ⌜ now (tree .exit) ≡ cond (isOk r) (fronted (leastTree (W·Ordered .side) (now (ends .entry)) (changedBy (now (links .entry)) (now (batch .entry)))) (now (tree .entry))) (now (tree .entry)) ⌝ }
+    ensures truth { λ r. ⌜ Truth (W·Ordered .side) n (now (ends .entry)) (now (links .entry)) (now (batch .entry)) r ⌝ }
     ensures sound { λ _. ⌜ isSome (networkFault n (now (ends .entry)) (now (links .exit)) (length (now (tree .exit)))) ≡ false ⌝ }
 {
     let m = ends.len();
