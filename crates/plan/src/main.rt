@@ -40,10 +40,19 @@ fn main(rt: LibcRuntime) -> Result<(), AnyError> {
 
 /// Opens a plant's network, draws its changes and prints the plan.
 fn tell<W: Weight>(rt: &LibcRuntime, plant: plant_text::Tables<W>) -> Result<(), AnyError> {
-    let plant_text::Tables { n, ends, links, link_lines, changes, change_lines } = plant;
+    let plant_text::Tables {
+        n,
+        ends,
+        links,
+        link_lines,
+        changes,
+        change_lines,
+    } = plant;
     let mut links = links;
     let nodes = n as usize;
-    let size = nodes.saturating_add(links.len()).saturating_add(changes.len());
+    let size = nodes
+        .saturating_add(links.len())
+        .saturating_add(changes.len());
     let mut tree = vec![in rt.alloc(); 0u32; nodes]?;
     let mut start = vec![in rt.alloc(); 0u32; nodes.saturating_sub(1)]?;
     let mut entries = vec![in rt.alloc(); (0u32, 0u32); changes.len()]?;

@@ -71,7 +71,7 @@ module _ {W : Type 0} (side : W → W → Side) (laws : Sided side) (n : ℕ) (e
     (some : 1 ≤ n) (sound : firstEndFault n 1 ends ≡ None) (many : length ends ≡ length links) (whole : joined n ends links ≡ true)
     (traced : sourced links batch sources ≡ pool (standings links) (movesOf links batch) ++ Absent ∷ [])
     (given : (i j : ℕ) → i < length sources → j < length sources → compared (getD places i 0) (getD places j 0)
-      ≡ stand side (getD (sourced links batch sources) i Absent) (getD (sourced links batch sources) j Absent))
+    ≡ stand side (getD (sourced links batch sources) i Absent) (getD (sourced links batch sources) j Absent))
     (split : places ≡ own ++ targets) (front : length own ≡ length links) (back : length targets ≡ length batch + 1) where
   abbrev ps : List ℕ
   ps = take (length batch - 0) targets
@@ -134,7 +134,7 @@ module _ {W : Type 0} (side : W → W → Side) (laws : Sided side) (n : ℕ) (e
   -- What the recursion told is what the definitions say.
   pub told-plan : (r : Result ℕ DrawFault) (out : List ℕ) → None ≡ changesFault 1 links batch
       → (let T = firstTear (getD targets (length batch) 0) own (graphOf ends) moves in
-        r ≡ unless (partedFault (cond (ltb T (length batch)) (1 + T) 0)) (work own (record { nodes = n; links = graphOf ends }) moves))
+      r ≡ unless (partedFault (cond (ltb T (length batch)) (1 + T) 0)) (work own (record { nodes = n; links = graphOf ends }) moves))
       → entriesIn out ≡ entries own (graphOf ends) moves → Planned side n ends links batch r out
   told-plan r out ok a e = record {
     answer = a ∙ ap₂ (λ (p w : ℕ). unless (partedFault p) w) same-parted same-work

@@ -92,6 +92,6 @@ listed-small ws out b room e small k l =
     let n = length-links ws in
     let t : length (take (length out) (linksIn ws)) ≡ length out = length-take-le (length out) (linksIn ws) (omega arith) in
     let q : getD out k 0 ≡ linkIn ws k .number =
-        ap (λ (x : List ℕ). getD x k 0) e ∙ getD-map number (take (length out) (linksIn ws)) k noLink 0 (omega arith)
-        ∙ ap number (getD-take (length out) (linksIn ws) k noLink l ∙ links-at ws k noLink (omega arith)) in
+    ap (λ (x : List ℕ). getD x k 0) e ∙ getD-map number (take (length out) (linksIn ws)) k noLink 0 (omega arith)
+    ∙ ap number (getD-take (length out) (linksIn ws) k noLink l ∙ links-at ws k noLink (omega arith)) in
     omega (arith, q, small k l)

@@ -59,7 +59,7 @@ module _ {W : Type 0} (ends : List Ends) (links : List (LinkState W)) where
       let v = next ends es e i q in
       let a : suc (i + 1) ≡ suc (suc i) = ap suc (add-one i) in
       let r : map (linkAt ends) (presentIndexes (i + 1) ss) ≡ filtered here-now (graphFrom (suc (suc i)) es) =
-          subst (λ k. map (linkAt ends) (presentIndexes (i + 1) ss) ≡ filtered here-now (graphFrom k es)) a (listed ss es (i + 1) (u .2) (v .2) (omega arith)) in
+      subst (λ k. map (linkAt ends) (presentIndexes (i + 1) ss) ≡ filtered here-now (graphFrom k es)) a (listed ss es (i + 1) (u .2) (v .2) (omega arith)) in
       let g : Link = record { number = suc i; a = record { 0 = e .a .0 }; b = record { 0 = e .b .0 } } in
       let same : linkAt ends i ≡ g = λ t. record { number = suc i; a = record { 0 = sought v t .a .0 }; b = record { 0 = sought v t .b .0 } } in
       let f : here-now g ≡ s .present = flag-at i s (u .0) (u .1) in

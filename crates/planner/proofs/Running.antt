@@ -48,10 +48,10 @@ pub all-laid : (ends : List Ends) (order : List ℕ) → length order ≡ length
 all-laid ends order n h =
     same-lists (map (linkAt ends) order) (graphOf ends) (length-map order (linkAt ends) ∙ n ∙ sym (graph-length 1 ends))
     (λ k d l.
-        let m : k < length order = omega (arith, length-map order (linkAt ends)) in
-        let q : suc k ≡ 1 + k = omega arith in
-        getD-map (linkAt ends) order k 0 d m ∙ ap (linkAt ends) (h k m) ∙ ap (λ j. link j (getD ends k noEnds .a .0) (getD ends k noEnds .b .0)) q
-        ∙ sym (graph-at 1 ends k d (omega arith)))
+    let m : k < length order = omega (arith, length-map order (linkAt ends)) in
+    let q : suc k ≡ 1 + k = omega arith in
+    getD-map (linkAt ends) order k 0 d m ∙ ap (linkAt ends) (h k m) ∙ ap (λ j. link j (getD ends k noEnds .a .0) (getD ends k noEnds .b .0)) q
+    ∙ sym (graph-at 1 ends k d (omega arith)))
 
 sorted-ascends : (es : List Link) → Sorted ltb es → Ascends es
 sorted-ascends [] s = tt

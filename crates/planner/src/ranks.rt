@@ -17,7 +17,11 @@ use weights::StandingOrdered;
 pub fn standing<W: Ordered>(link: &LinkState<W>) -> Standing<W>
     ensures { λ r. ⌜ r ≡ standingOf (now (link .entry)) ⌝ }
 {
-    if link.present { Standing::At(link.weight) } else { Standing::Absent }
+    if link.present {
+        Standing::At(link.weight)
+    } else {
+        Standing::Absent
+    }
 }
 
 /// The links of a table, index i for link i + 1, by standing and then number.

@@ -52,7 +52,13 @@ impl<'a, 'b, 'c, W: Weight> Book<'a, 'b, 'c, W> {
         if let Some(fault) = self.refusal {
             return Err(DrawFault::NotOpened(fault));
         }
-        let Book { n, ends, links, tree, refusal: _ } = self;
+        let Book {
+            n,
+            ends,
+            links,
+            tree,
+            refusal: _,
+        } = self;
         draw_batch(*n, ends, links, tree, batch, start, entries, work)
     }
 }

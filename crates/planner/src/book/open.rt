@@ -25,7 +25,12 @@ impl<'a, 'b, 'c, W: Weight> Book<'a, 'b, 'c, W> {
         ensures tree { λ r. ⌜ now (r .tree) ≡ cond (isSome (r .refusal)) (now (tables .entry .tree)) (fronted (leastTree (W·Ordered .side) (now (tables .entry .ends)) (now (tables .entry .links))) (now (tables .entry .tree))) ⌝ }
         ensures lent { λ r. ⌜ (name (r .links) ≡ name (tables .entry .links)) × (name (r .tree) ≡ name (tables .entry .tree)) ⌝ }
     {
-        let Tables { n, ends, links, tree } = tables;
+        let Tables {
+            n,
+            ends,
+            links,
+            tree,
+        } = tables;
         let mut refusal = check_tables(n, ends, links.len(), tree.len(), work.len());
         if refusal.is_none() {
             if !least_tree(n, ends, links, tree, work) {
@@ -56,8 +61,19 @@ impl<'a, 'b, 'c, W: Weight> Book<'a, 'b, 'c, W> {
         ensures tree { λ r. ⌜ now (r .tree) ≡ now (self .entry .tree) ⌝ }
         ensures lent { λ r. ⌜ (name (r .links) ≡ name (self .entry .links)) × (name (r .tree) ≡ name (self .entry .tree)) ⌝ }
     {
-        let Book { n, ends, links, tree, refusal: _ } = self;
-        Tables { n, ends, links, tree }
+        let Book {
+            n,
+            ends,
+            links,
+            tree,
+            refusal: _,
+        } = self;
+        Tables {
+            n,
+            ends,
+            links,
+            tree,
+        }
     }
 }
 

@@ -81,7 +81,7 @@ cast-result g c =
     let T : ℕ = firstTear (c .args .absent) places (graphOf ends) (placeMoves batch ps) in
     let t = c .batch-tally .ensures .tear (subst (λ (x : List Link). tornAt (c .args .absent) places x ≡ false) (sym es) (c .pre .whole)) in
     let e : firstTear (c .args .absent) places (linksIn (c .lay-out .last .out)) (movesIn (c .list-moves .last .moves)) ≡ T =
-        ap₂ (λ (x : List Link) (y : List (Move ℕ)). firstTear (c .args .absent) places x y) es ms in
+    ap₂ (λ (x : List Link) (y : List (Move ℕ)). firstTear (c .args .absent) places x y) es ms in
     let w : c .batch-tally .result .whole ≡ T = t .0 ∙ e in
     let z : c .batch-tally .result .torn ≡ ltb T (length batch) = t .1 ∙ ap₂ (λ (x y : ℕ). ltb x y) e k in
     let l : T < length batch = ltb-true T (length batch) (sym z ∙ c .if-tally .taken) in
@@ -102,7 +102,7 @@ add-result g c =
     let T : ℕ = firstTear (c .args .absent) places (graphOf ends) (placeMoves batch ps) in
     let t = c .batch-tally .ensures .tear (subst (λ (x : List Link). tornAt (c .args .absent) places x ≡ false) (sym es) (c .pre .whole)) in
     let e : firstTear (c .args .absent) places (linksIn (c .lay-out .last .out)) (movesIn (c .list-moves .last .moves)) ≡ T =
-        ap₂ (λ (x : List Link) (y : List (Move ℕ)). firstTear (c .args .absent) places x y) es ms in
+    ap₂ (λ (x : List Link) (y : List (Move ℕ)). firstTear (c .args .absent) places x y) es ms in
     let w : c .batch-tally .result .whole ≡ T = t .0 ∙ e in
     let z : c .batch-tally .result .torn ≡ ltb T (length batch) = t .1 ∙ ap₂ (λ (x y : ℕ). ltb x y) e k in
     let l : T < length batch = ltb-true T (length batch) (sym z ∙ c .if-tally .taken) in
@@ -123,7 +123,7 @@ returns-then-tally g c =
     let T : ℕ = firstTear (c .args .absent) places (graphOf ends) (placeMoves batch ps) in
     let t = c .batch-tally .ensures .tear (subst (λ (x : List Link). tornAt (c .args .absent) places x ≡ false) (sym es) (c .pre .whole)) in
     let e : firstTear (c .args .absent) places (linksIn (c .lay-out .last .out)) (movesIn (c .list-moves .last .moves)) ≡ T =
-        ap₂ (λ (x : List Link) (y : List (Move ℕ)). firstTear (c .args .absent) places x y) es ms in
+    ap₂ (λ (x : List Link) (y : List (Move ℕ)). firstTear (c .args .absent) places x y) es ms in
     let w : c .batch-tally .result .whole ≡ T = t .0 ∙ e in
     let z : c .batch-tally .result .torn ≡ ltb T (length batch) = t .1 ∙ ap₂ (λ (x y : ℕ). ltb x y) e k in
     record {
@@ -146,11 +146,11 @@ returns g c =
     let T : ℕ = firstTear (c .args .absent) places (graphOf ends) (placeMoves batch ps) in
     let t = c .batch-tally .ensures .tear (subst (λ (x : List Link). tornAt (c .args .absent) places x ≡ false) (sym es) (c .pre .whole)) in
     let e : firstTear (c .args .absent) places (linksIn (c .lay-out .last .out)) (movesIn (c .list-moves .last .moves)) ≡ T =
-        ap₂ (λ (x : List Link) (y : List (Move ℕ)). firstTear (c .args .absent) places x y) es ms in
+    ap₂ (λ (x : List Link) (y : List (Move ℕ)). firstTear (c .args .absent) places x y) es ms in
     let w : c .batch-tally .result .whole ≡ T = t .0 ∙ e in
     let z : c .batch-tally .result .torn ≡ ltb T (length batch) = t .1 ∙ ap₂ (λ (x y : ℕ). ltb x y) e k in
     record {
       entries = c .batch-tally .ensures .entries ∙ ap₂ (λ (x : List Link) (y : List (Move ℕ)). entries places x y) es ms;
       answer = told-whole T (length batch) (c .batch-tally .result .work) _ (sym z ∙ c .if-tally .left)
-        (c .batch-tally .ensures .count ∙ ap₂ (λ (x : List Link) (y : List (Move ℕ)). work places (record { nodes = n; links = x }) y) es ms);
+          (c .batch-tally .ensures .count ∙ ap₂ (λ (x : List Link) (y : List (Move ℕ)). work places (record { nodes = n; links = x }) y) es ms);
     }

@@ -46,7 +46,7 @@ keep-requires g c κs =
     let few : p ≤ length ends = omega (arith, c .present-links-p .ensures .within, c .pre .same .0) in
     let m : length out ≡ p * 3 = c .sort-links .kept .out ∙ lent-length (p * 3) (c .args .out .now) (omega (arith, c .pre .room .1)) in
     let q : linksIn out ≡ ordered lt (presentLinks links (graphOf ends)) =
-        present-ordered ends links lt p (c .present-links-p .last .order) out (c .pre .same .0) (c .present-links-p .ensures .present) (c .sort-links .ensures) in
+    present-ordered ends links lt p (c .present-links-p .last .order) out (c .pre .same .0) (c .present-links-p .ensures .present) (c .sort-links .ensures) in
     record {
       size = omega (arith, c .pre .nodes .0, c .pre .nodes .1);
       ends = ordered-ends ends links lt _ _ (ap linksIn (lent-front (p * 3) out _ m) ∙ q) (λ i l. let e = c .pre .ends i l in (omega (arith, c .pre .nodes .0), omega (arith, c .pre .nodes .0)));
@@ -62,7 +62,7 @@ returns g c =
     let few : p ≤ length ends = omega (arith, c .present-links-p .ensures .within, c .pre .same .0) in
     let m : length out ≡ p * 3 = c .sort-links .kept .out ∙ lent-length (p * 3) (c .args .out .now) (omega (arith, c .pre .room .1)) in
     let q : linksIn out ≡ ordered lt (presentLinks links (graphOf ends)) =
-        present-ordered ends links lt p (c .present-links-p .last .order) out (c .pre .same .0) (c .present-links-p .ensures .present) (c .sort-links .ensures) in
+    present-ordered ends links lt p (c .present-links-p .last .order) out (c .pre .same .0) (c .present-links-p .ensures .present) (c .sort-links .ensures) in
     let f = lent-front (p * 3) out _ m in
     let k : length (c .keep .last .links) ≡ p * 3 = c .keep .kept .links ∙ ap length f ∙ m in
     let w : c .keep .result ≤ p = omega (arith, c .keep .ensures .within, ap length f) in

@@ -41,7 +41,7 @@ returns-then-k-n g c =
     let ws = c .least-forest-k .last .out in
     let e = c .least-forest-k .ensures .forest in
     let room : k ≤ length ws / 3 =
-        omega (arith, f .work, f .some, c .least-forest-k .ensures .within, c .least-forest-k .kept .out, c .split-at-mut-order .ensures .back-len, c .split-at-mut-names .ensures .back-len, c .split-at-mut-parent .ensures .back-len) in
+    omega (arith, f .work, f .some, c .least-forest-k .ensures .within, c .least-forest-k .kept .out, c .split-at-mut-order .ensures .back-len, c .split-at-mut-names .ensures .back-len, c .split-at-mut-parent .ensures .back-len) in
     let m = forest-length side laws n ends links ws k room e in
     record {
       joined = sym (counted side laws n ends links (f .some) (graph-within n 1 1 ends (f .ends)) .1 (λ q. c .if-k-n .taken (omega (arith, q, m))));
@@ -61,7 +61,7 @@ list-numbers-requires g c κs =
     let ws = c .least-forest-k .last .out in
     let e = c .least-forest-k .ensures .forest in
     let room : k ≤ length ws / 3 =
-        omega (arith, f .work, f .some, c .least-forest-k .ensures .within, c .least-forest-k .kept .out, c .split-at-mut-order .ensures .back-len, c .split-at-mut-names .ensures .back-len, c .split-at-mut-parent .ensures .back-len) in
+    omega (arith, f .work, f .some, c .least-forest-k .ensures .within, c .least-forest-k .kept .out, c .split-at-mut-order .ensures .back-len, c .split-at-mut-names .ensures .back-len, c .split-at-mut-parent .ensures .back-len) in
     let m = forest-length side laws n ends links ws k room e in
     let t : length (take (k - 0) (c .args .tree .now)) ≡ k = lent-length k (c .args .tree .now) (omega (arith, f .tree, c .if-k-n .left)) in
     record {
@@ -83,7 +83,7 @@ returns g c =
     let ws = c .least-forest-k .last .out in
     let e = c .least-forest-k .ensures .forest in
     let room : k ≤ length ws / 3 =
-        omega (arith, f .work, f .some, c .least-forest-k .ensures .within, c .least-forest-k .kept .out, c .split-at-mut-order .ensures .back-len, c .split-at-mut-names .ensures .back-len, c .split-at-mut-parent .ensures .back-len) in
+    omega (arith, f .work, f .some, c .least-forest-k .ensures .within, c .least-forest-k .kept .out, c .split-at-mut-order .ensures .back-len, c .split-at-mut-names .ensures .back-len, c .split-at-mut-parent .ensures .back-len) in
     let m = forest-length side laws n ends links ws k room e in
     record {
       joined = sym (counted side laws n ends links (f .some) (graph-within n 1 1 ends (f .ends)) .0 (omega (arith, m, c .if-k-n .left)));
