@@ -8,9 +8,10 @@ use Rattle.std.proofs.shelf.Lists.{take-more, take-more-set, take-all}
 use Rattle.network.specs.declared.types.LinkState.{LinkState}
 use Rattle.network.specs.declared.types.Change.{Change}
 use Rattle.plans.specs.declared.Move.{Move}
-use Rattle.plans.specs.Network.{linkOf, changedLink, altered, alteredLink, changed, changedBy}
+use Rattle.plans.specs.Network.{linkOf, changedLink, alteredLink, changed, changedBy}
 use Rattle.plans.proofs.Standings.{altered-set}
 use Rattle.planner.specs.Moves.{placeMoves}
+use Rattle.planner.proofs.Judging.{altered-link-length}
 
 altered-link : {W : Type 0} (f : LinkState W → LinkState W) (links : List (LinkState W)) (k : ℕ) (d : LinkState W) → 1 ≤ k → k ≤ length links
     → alteredLink f links k ≡ set links (k - 1) (f (getD links (k - 1) d))
@@ -39,21 +40,10 @@ changed-none links batch = refl
 pub changed-all : {W : Type 0} (links : List (LinkState W)) (batch : List (Change W)) (i : ℕ) → length batch ≤ i → changedBy links (take i batch) ≡ changedBy links batch
 changed-all {W} links batch i l = ap (λ (cs : List (Change W)). changedBy links cs) (take-all i batch l)
 
-altered-length : {A : Type 0} (f : A → A) (xs : List A) (k : ℕ) → length (altered f xs k) ≡ length xs
-unfolding altered
-altered-length f [] k = refl
-altered-length f (x ∷ xs) zero = refl
-altered-length f (x ∷ xs) (suc k) = ap suc (altered-length f xs k)
-
-link-length : {W : Type 0} (f : LinkState W → LinkState W) (links : List (LinkState W)) (k : ℕ) → length (alteredLink f links k) ≡ length links
-unfolding alteredLink
-link-length f links zero = refl
-link-length f links (suc k) = altered-length f links k
-
 pub changed-length : {W : Type 0} (links : List (LinkState W)) (batch : List (Change W)) → length (changedBy links batch) ≡ length links
 unfolding changedBy
 changed-length links [] = refl
-changed-length links (c ∷ cs) = changed-length (changed links c) cs ∙ link-length (changedLink c) links (linkOf c)
+changed-length links (c ∷ cs) = changed-length (changed links c) cs ∙ altered-link-length (changedLink c) links (linkOf c)
 
 -- A table filled from the front with what a list has.
 pub filled-more : {X : Type 0} (xs ys zs : List X) (i : ℕ) (v d : X) → i < length xs → i < length ys → zs ≡ set xs i v → v ≡ getD ys i d

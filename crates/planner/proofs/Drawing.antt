@@ -39,11 +39,11 @@ use Rattle.plans.specs.Work.{work}
 use Rattle.plans.proofs.Faithful.{same-order}
 use Rattle.plans.proofs.Present.{absentees}
 use Rattle.blocks.specs.Words.{entriesIn}
+use Rattle.plans.proofs.Standings.{faultless-within}
 use Rattle.planner.specs.Draw.{changesFault, partedFault, unless}
 use Rattle.planner.specs.Open.{joined}
 use Rattle.planner.specs.Moves.{placeMoves}
 use Rattle.planner.specs.Pool.{sourced}
-use Rattle.planner.proofs.Fits.{graph-within}
 use Rattle.planner.proofs.Pooled.{pool-faithful, pool-absent-at}
 
 moves-to : {W : Type 0} (batch : List (Change W)) (ps : List ℕ) → length ps ≡ length batch → map (λ (c : Move ℕ). c .to) (placeMoves batch ps) ≡ ps
@@ -116,7 +116,7 @@ module _ {W : Type 0} (side : W → W → Side) (laws : Sided side) (n : ℕ) (e
       joined-joins (joined-mono (filtered-sub _ (graphOf ends)) (joins-joined (all-joined n (presentLinks links (graphOf ends)) some .0 whole x y p q u v)))
 
   absences : Absentees side n ends links
-  absences = absentees side laws ends n some (graph-within n 1 1 ends sound) all-known links
+  absences = absentees side laws ends n some (faultless-within n 1 ends sound) all-known links
 
   pub not-torn : tornAt (getD targets (length batch) 0) own (graphOf ends) ≡ false
   not-torn = same .start _ absent-at ∙ not-true _ (sym (absences .torn) ∙ whole)

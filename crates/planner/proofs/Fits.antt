@@ -17,12 +17,8 @@ use Rattle.network.specs.declared.types.EndFault.{EndFault}
 use Rattle.network.specs.declared.types.EndFault.the-variants.{Outside, Same}
 use Rattle.faults.specs.declared.OpenFault.the-variants.{NodeCount, LinkCount, ShortTables}
 use Rattle.network.specs.Ends.{noNode, endFault, orElse, firstEndFault}
-use Rattle.graphs.specs.declared.Link.{Link}
-use Rattle.graphs.specs.Graph.{In, here, later}
-use Rattle.graphs.specs.Spanning.{Within}
-use Rattle.plans.specs.Network.{graphFrom, graphOf}
 use Rattle.planner.specs.Open.{misfit, tablesFault, ofEnds}
-use Rattle.planner.specs.Tree.{noEnds, Between}
+use Rattle.planner.specs.Tree.{noEnds, EndsUnder}
 
 some-none : {X : Type 0} {Y : Type 0} (x : X) → Some x ≡ None → Y
 some-none x e = absurd (let z : _≡_ {A = ℕ} 0 1 = cc in omega arith)
@@ -94,14 +90,8 @@ end-sound n k e h =
     let v = b .0 in
     (grind (arith, tells), grind (arith, tells), grind (arith, tells), grind (arith, tells))
 
-pub ends-between : (n k : ℕ) (es : List Ends) → firstEndFault n k es ≡ None → Between (suc n) es
+pub ends-between : (n k : ℕ) (es : List Ends) → firstEndFault n k es ≡ None → EndsUnder (suc n) es
 ends-between n k [] h i l = absurd (omega arith)
 ends-between n k (e ∷ es) h zero l =
     let s = end-sound n k e (orElse-none (endFault n k e) (firstEndFault n (k + 1) es) h .0) in (omega (arith, s .1), omega (arith, s .3))
 ends-between n k (e ∷ es) h (suc i) l = ends-between n (k + 1) es (orElse-none (endFault n k e) (firstEndFault n (k + 1) es) h .1) i (omega arith)
-
-pub graph-within : (n k j : ℕ) (es : List Ends) → firstEndFault n k es ≡ None → Within n (graphFrom j es)
-unfolding graphFrom
-graph-within n k j [] h f i = elim i [ ]
-graph-within n k j (e ∷ es) h f here = end-sound n k e (orElse-none (endFault n k e) (firstEndFault n (k + 1) es) h .0)
-graph-within n k j (e ∷ es) h f (later i) = graph-within n (k + 1) (suc j) es (orElse-none (endFault n k e) (firstEndFault n (k + 1) es) h .1) f i

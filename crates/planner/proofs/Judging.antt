@@ -86,7 +86,7 @@ altered-length f [] k = refl
 altered-length f (x ∷ xs) zero = refl
 altered-length f (x ∷ xs) (suc k) = ap suc (altered-length f xs k)
 
-altered-link-length : {W : Type 0} (f : LinkState W → LinkState W) (links : List (LinkState W)) (k : ℕ) → length (alteredLink f links k) ≡ length links
+pub altered-link-length : {W : Type 0} (f : LinkState W → LinkState W) (links : List (LinkState W)) (k : ℕ) → length (alteredLink f links k) ≡ length links
 unfolding alteredLink
 altered-link-length f links zero = refl
 altered-link-length f links (suc k) = altered-length f links k

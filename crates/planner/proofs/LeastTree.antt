@@ -28,7 +28,7 @@ use Rattle.forests.proofs.Packed.{links-at, length-links}
 use Rattle.planner.specs.Open.{fronted, joined}
 use Rattle.planner.proofs.Standings.{strict-links}
 use Rattle.planner.proofs.Present.{present-distinct}
-use Rattle.planner.proofs.Fits.{Fit, graph-within}
+use Rattle.planner.proofs.Fits.{Fit}
 
 module _ {W : Type 0} (side : W → W → Side) (laws : Sided side) (n : ℕ) (ends : List Ends) (links : List (LinkState W)) where
   abbrev L : List Link

@@ -24,7 +24,7 @@ use Rattle.forests.specs.Words.{linksIn}
 use Rattle.forests.specs.Union.{Ends as EndsBelow}
 use Rattle.forests.proofs.InOrder.{in-getD}
 use Rattle.forests.proofs.Packed.{links-take}
-use Rattle.planner.specs.Tree.{noEnds, presentIndexes, linkAt, Between}
+use Rattle.planner.specs.Tree.{noEnds, presentIndexes, linkAt, EndsUnder}
 
 is-present : {W : Type 0} (b : Bool) (w : W) → isAt (standingIf b w) ≡ b
 is-present true w = refl
@@ -100,7 +100,7 @@ present-below i (s ∷ ss) k l =
     let more : (k : ℕ) → k < length R → getD R k 0 < i + suc (length ss) = λ k m. omega (arith, present-below (i + 1) ss k m) in
     cond-both (s .present) (i ∷ R) R (λ xs. (k : ℕ) → k < length xs → getD xs k 0 < i + suc (length ss)) (λ _. headed i (i + suc (length ss)) R (omega arith) more) (λ _. more) k l
 
-graph-between : (n k : ℕ) (ends : List Ends) → Between n ends → (e : Link) → In e (graphFrom k ends) → (e .a .0 < n) × (e .b .0 < n)
+graph-between : (n k : ℕ) (ends : List Ends) → EndsUnder n ends → (e : Link) → In e (graphFrom k ends) → (e .a .0 < n) × (e .b .0 < n)
 unfolding graphFrom
 graph-between n k [] b e i = elim i [ ]
 graph-between n k (x ∷ ends) b e here = b 0 (omega arith)
@@ -110,7 +110,7 @@ module _ {W : Type 0} (ends : List Ends) (links : List (LinkState W)) where
   pub present-distinct : Distinct (presentLinks links (graphOf ends))
   present-distinct = filtered-distinct _ (graphOf ends) (graph-distinct 1 ends)
 
-  pub ordered-between : (lt : ℕ → ℕ → Bool) (n : ℕ) → Between n ends → (e : Link) → In e (ordered lt (presentLinks links (graphOf ends))) → (e .a .0 < n) × (e .b .0 < n)
+  pub ordered-between : (lt : ℕ → ℕ → Bool) (n : ℕ) → EndsUnder n ends → (e : Link) → In e (ordered lt (presentLinks links (graphOf ends))) → (e .a .0 < n) × (e .b .0 < n)
   ordered-between lt n b e i = graph-between n 1 ends b e (filtered-sub _ (graphOf ends) e (ordered-in lt (presentLinks links (graphOf ends)) e i))
 
 -- The first links of a table are those of its front.
@@ -139,5 +139,5 @@ present-ordered ends links lt p order out n e s =
     s ∙ ap (λ xs. ordered lt (map (linkAt ends) xs)) (lent-same p order ∙ e) ∙ ap (ordered lt) (present-listed ends links n)
 
 pub ordered-ends : {W : Type 0} (ends : List Ends) (links : List (LinkState W)) (lt : ℕ → ℕ → Bool) (n : ℕ) (es : List Link)
-    → es ≡ ordered lt (presentLinks links (graphOf ends)) → Between n ends → EndsBelow n es
+    → es ≡ ordered lt (presentLinks links (graphOf ends)) → EndsUnder n ends → EndsBelow n es
 ordered-ends ends links lt n es q b k l d = ordered-between ends links lt n b (getD es k d) (subst (In (getD es k d)) q (in-getD es k d l))

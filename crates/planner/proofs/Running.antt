@@ -24,14 +24,13 @@ use Rattle.graphs.specs.Graph.{In}
 use Rattle.graphs.proofs.Lists.{Sorted}
 use Rattle.plans.specs.declared.Move.{Move}
 use Rattle.plans.specs.Network.{graphFrom, graphOf, linkOf}
-use Rattle.plans.proofs.Standings.{graph-length, graph-numbers, graph-sorted}
+use Rattle.plans.proofs.Standings.{faultless-within, graph-length, graph-numbers, graph-sorted}
 use Rattle.forests.specs.Words.{link, noLink}
 use Rattle.thinning.specs.Marks.{Ascends}
 use Rattle.blocks.specs.Leaf.{noMove, Sound}
 use Rattle.planner.specs.Draw.{partedFault, unless}
 use Rattle.planner.specs.Moves.{Known, placeMoves}
 use Rattle.planner.specs.Tree.{noEnds, linkAt}
-use Rattle.planner.proofs.Fits.{graph-within}
 use Rattle.planner.proofs.Commits.{moves-length, moves-at}
 
 graph-at : (k : ℕ) (ends : List Ends) (i : ℕ) (d : Link) → i < length ends
@@ -72,7 +71,7 @@ graph-sound n ends batch ps f k = record {
   known = known-moves (length ends) batch ps k;
   numbers = λ e i. let r = graph-numbers 1 ends e i in (r .0, omega (arith, r .1));
   ascends = sorted-ascends (graphOf ends) (graph-sorted 1 ends);
-  ends = graph-within n 1 1 ends f;
+  ends = faultless-within n 1 ends f;
 }
 
 -- A network and a batch of known links are such as the recursion takes.

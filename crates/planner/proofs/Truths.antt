@@ -24,11 +24,11 @@ use Rattle.graphs.specs.Spanning.{allJoined}
 use Rattle.graphs.proofs.Trees.{all-joined}
 use Rattle.plans.specs.Network.{Sided, graphOf, presentLinks, isAt, standingAt, linkOf, changed, changedBy, linksAt, workCount, partedFrom, partedAt}
 use Rattle.plans.proofs.Theorems.{plans-replay, work-bounded}
+use Rattle.plans.proofs.Standings.{faultless-within}
 use Rattle.planner.specs.declared.drawn.Drawn.{Drawn}
 use Rattle.planner.specs.Open.{joined}
 use Rattle.planner.specs.Draw.{removeFault, changeFault, changesFault, partedFault}
 use Rattle.planner.specs.Truth.{WholeAt, Granted, Parts, Truth}
-use Rattle.planner.proofs.Fits.{graph-within}
 
 -- Some moment parts the network, or none does.
 module _ {W : Type 0} (n : ℕ) (ends : List Ends) where
@@ -126,7 +126,7 @@ module _ {W : Type 0} (side : W → W → Side) (laws : Sided side) (n : ℕ) (e
   pub granted-truth : (d : Drawn) → partedAt n ends links batch ≡ 0 → d .work ≡ workCount side n ends links batch → Granted side n ends links batch d
   granted-truth d p e =
       let w : (t : ℕ) → WholeAt side n ends links batch t = λ t. all-joined n (presentLinks (linksAt links batch t) (graphOf ends)) some .0 (whole-all n ends 1 links batch (omega arith) whole p t) in
-      let r = plans-replay side laws n ends (graph-within n 1 1 ends sound) links batch in
+      let r = plans-replay side laws n ends (faultless-within n 1 ends sound) links batch in
       let b = work-bounded side laws n ends links batch in
       record {
         whole = w;

@@ -21,5 +21,5 @@ abbrev pub linkAt : List Ends → ℕ → Link
 linkAt ends i = record { number = suc i; a = record { 0 = getD ends i noEnds .a .0 }; b = record { 0 = getD ends i noEnds .b .0 } }
 
 -- The ends of links are nodes below n.
-abbrev pub Between : ℕ → List Ends → Type 0
-Between n ends = (i : ℕ) → i < length ends → (getD ends i noEnds .a .0 < n) × (getD ends i noEnds .b .0 < n)
+abbrev pub EndsUnder : ℕ → List Ends → Type 0
+EndsUnder n ends = (i : ℕ) → i < length ends → (getD ends i noEnds .a .0 < n) × (getD ends i noEnds .b .0 < n)

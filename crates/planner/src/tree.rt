@@ -11,7 +11,7 @@ ghost use Rattle.graphs.specs.Forest.{Distinct, ordered};
 ghost use Rattle.plans.specs.Plan.{numbers};
 ghost use Rattle.plans.specs.Network.{linkBefore, leastForest, leastTree};
 ghost use Rattle.planner.specs.Open.{fronted, tablesFault, joined};
-ghost use Rattle.planner.specs.Tree.{presentIndexes, linkAt, Between};
+ghost use Rattle.planner.specs.Tree.{presentIndexes, linkAt, EndsUnder};
 use crate::ranks::ByNumber;
 use crate::ranks::ByStanding;
 use crate::ranks::NumberRanking;
@@ -44,7 +44,7 @@ pub fn lay_out(ends: &[Ends], order: &[u32], names: &[u32], out: &mut [u32])
     requires within { ⌜ Indexes (now order) (length (now ends)) ⌝ }
     requires few { ⌜ length (now ends) ≤ 16384 ⌝ }
     requires named { ⌜ ((x : ℕ) → x < length (now names) → getD (now names) x 0 ≡ x) ⌝ }
-    requires ends { ⌜ Between (length (now names)) (now ends) ⌝ }
+    requires ends { ⌜ EndsUnder (length (now names)) (now ends) ⌝ }
     ensures { λ _. ⌜ linksIn (now (out .exit)) ≡ map (linkAt (now (ends .entry))) (now (order .entry)) ⌝ }
 {
     for j in 0..order.len() {
@@ -83,7 +83,7 @@ fn sort_links<W: Ordered>(
     requires room { ⌜ length (now out) ≡ 3 * length (now order) ⌝ }
     requires within { ⌜ Indexes (now order) (length (now ends)) ⌝ }
     requires same { ⌜ (length (now links) ≡ length (now ends)) × (length (now ends) ≤ 16384) ⌝ }
-    requires ends { ⌜ Between (length (now names)) (now ends) ⌝ }
+    requires ends { ⌜ EndsUnder (length (now names)) (now ends) ⌝ }
     requires apart { ⌜ Distinct (map (linkAt (now ends)) (now order)) ⌝ }
     requires few { ⌜ length (now names) ≤ 2 ^ 32 ⌝ }
     ensures { λ _. ⌜ linksIn (now (out .exit)) ≡ ordered (linkBefore (W·Ordered .side) (now (links .entry))) (map (linkAt (now (ends .entry))) (now (order .entry))) ⌝ }
@@ -105,7 +105,7 @@ fn least_forest<W: Ordered>(
 ) -> usize
     requires room { ⌜ (length (now order) ≡ length (now ends)) × (3 * length (now ends) ≤ length (now out)) ⌝ }
     requires same { ⌜ (length (now links) ≡ length (now ends)) × (length (now ends) ≤ 16384) ⌝ }
-    requires ends { ⌜ Between (length (now names)) (now ends) ⌝ }
+    requires ends { ⌜ EndsUnder (length (now names)) (now ends) ⌝ }
     requires nodes { ⌜ (length (now parent) ≡ length (now names)) × (length (now names) ≤ 2 ^ 32) ⌝ }
     ensures within { λ r. ⌜ r ≤ length (now (ends .entry)) ⌝ }
     ensures forest { λ r. ⌜ take r (linksIn (now (out .exit))) ≡ leastForest (W·Ordered .side) (now (ends .entry)) (now (links .entry)) ⌝ }

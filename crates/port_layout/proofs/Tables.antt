@@ -105,11 +105,11 @@ module _ (n : ℕ) (es : List Ends) (bs : List ℕ) (t : Table n es bs) where
         }
 
   -- Two steps, of a link's first record and then its second, turn its flag.
-  module _ (cs : List ℕ) (len : length cs ≡ length bs) (i : ℕ) (h : i < length es) (b : Bool) (w1 : ℕ → ℕ) (K1 K2 : ℕ → List ℕ)
-      (s1 : Step n (2 * length es) (owner es) w1 (chainOf n es bs) K1 (2 * i + 1) b)
-      (s2 : Step n (2 * length es) (owner es) (word cs) K1 K2 (2 * i + 2) b) where
-    pub met : (v : ℕ) → v < n → chainOf n es cs v ≡ K2 v
-    met v l = lists n (2 * length es) (owner es) (word cs) K2 (s2 .kept) v l
+  module _ (cs : List ℕ) (len : length cs ≡ length bs) (i : ℕ) (h : i < length es) (b : Bool) (w1 : ℕ → ℕ) (C1 C2 : ℕ → List ℕ)
+      (s1 : Step n (2 * length es) (owner es) w1 (chainOf n es bs) C1 (2 * i + 1) b)
+      (s2 : Step n (2 * length es) (owner es) (word cs) C1 C2 (2 * i + 2) b) where
+    pub met : (v : ℕ) → v < n → chainOf n es cs v ≡ C2 v
+    met v l = lists n (2 * length es) (owner es) (word cs) C2 (s2 .kept) v l
 
     first-under : (j : ℕ) → j < length es → firstHead es j < n
     first-under j l = let g = t .joins j l in omega (arith, g .first-is, g .first-in)
@@ -121,12 +121,12 @@ module _ (n : ℕ) (es : List Ends) (bs : List ℕ) (t : Table n es bs) where
     turned =
         ap (has (2 * i + 1)) (met (firstHead es i) (first-under i h))
         ∙ s2 .others (2 * i + 1) (firstHead es i) (λ e. omega arith)
-        ∙ ap (λ v. has (2 * i + 1) (K1 v)) (sym (owner-first es i)) ∙ s1 .it
+        ∙ ap (λ v. has (2 * i + 1) (C1 v)) (sym (owner-first es i)) ∙ s1 .it
 
     turned-second : has (2 * i + 2) (chainOf n es cs (secondHead es i)) ≡ b
     turned-second =
         ap (has (2 * i + 2)) (met (secondHead es i) (second-under i h))
-        ∙ ap (λ v. has (2 * i + 2) (K2 v)) (sym (owner-second es i)) ∙ s2 .it
+        ∙ ap (λ v. has (2 * i + 2) (C2 v)) (sym (owner-second es i)) ∙ s2 .it
 
     stays : (y v : ℕ) → v < n → (y ≡ 2 * i + 1 → ⊥) → (y ≡ 2 * i + 2 → ⊥) → has y (chainOf n es cs v) ≡ has y (chainOf n es bs v)
     stays y v l a c = ap (has y) (met v l) ∙ s2 .others y v c ∙ s1 .others y v a
@@ -151,7 +151,7 @@ module _ (n : ℕ) (es : List Ends) (bs : List ℕ) (t : Table n es bs) where
       links = t .links;
       room = omega (arith, len, t .room);
       joins = t .joins;
-      sound = settled n (2 * length es) (owner es) (word cs) K2 (s2 .kept) owned;
+      sound = settled n (2 * length es) (owner es) (word cs) C2 (s2 .kept) owned;
       paired = λ j jl. elim (cases-eq j i) [
         | inl e ↦ ap (linked n es cs) e ∙ turned ∙ sym (ap (λ z. has (2 * z + 2) (chainOf n es cs (secondHead es z))) e ∙ turned-second)
         | inr d ↦ stays (2 * j + 1) (firstHead es j) (first-under j jl) (λ e. d (omega arith)) (λ e. omega arith)

@@ -7,8 +7,9 @@ use lib.ListN.{length, take}
 use Rattle.graphs.specs.Forest.{Distinct}
 use Rattle.plans.specs.Network.{Sided, leastForest}
 use Rattle.forests.specs.Words.{linksIn}
+use Rattle.plans.proofs.Standings.{faultless-within}
 use Rattle.planner.proofs.Present.{lent-length}
-use Rattle.planner.proofs.Fits.{Fit, fits, ends-between, graph-within}
+use Rattle.planner.proofs.Fits.{Fit, fits, ends-between}
 use Rattle.planner.proofs.LeastTree.{forest-apart, counted, forest-length, front-small, table-filled}
 use Rattle.planner.proofs.tree.least_tree.Needs as need
 
@@ -44,7 +45,7 @@ returns-then-k-n g c =
     omega (arith, f .work, f .some, c .least-forest-k .ensures .within, c .least-forest-k .kept .out, c .split-at-mut-order .ensures .back-len, c .split-at-mut-names .ensures .back-len, c .split-at-mut-parent .ensures .back-len) in
     let m = forest-length side laws n ends links ws k room e in
     record {
-      joined = sym (counted side laws n ends links (f .some) (graph-within n 1 1 ends (f .ends)) .1 (λ q. c .if-k-n .taken (omega (arith, q, m))));
+      joined = sym (counted side laws n ends links (f .some) (faultless-within n 1 ends (f .ends)) .1 (λ q. c .if-k-n .taken (omega (arith, q, m))));
       tree = search needs;
     }
 
@@ -86,6 +87,6 @@ returns g c =
     omega (arith, f .work, f .some, c .least-forest-k .ensures .within, c .least-forest-k .kept .out, c .split-at-mut-order .ensures .back-len, c .split-at-mut-names .ensures .back-len, c .split-at-mut-parent .ensures .back-len) in
     let m = forest-length side laws n ends links ws k room e in
     record {
-      joined = sym (counted side laws n ends links (f .some) (graph-within n 1 1 ends (f .ends)) .0 (omega (arith, m, c .if-k-n .left)));
+      joined = sym (counted side laws n ends links (f .some) (faultless-within n 1 ends (f .ends)) .0 (omega (arith, m, c .if-k-n .left)));
       tree = table-filled side laws n ends links ws k room e (c .args .tree .now) (c .list-numbers .last .out) (omega (arith, f .tree, c .if-k-n .left)) (c .list-numbers .ensures);
     }
