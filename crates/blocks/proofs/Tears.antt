@@ -1,6 +1,6 @@
 -- The first tear of a batch, in parts and on the thinned graph.
 use Rattle.std.proofs.Common.{◌≡◌, ℕ, suc, ◌+◌, ◌<◌, ◌≤◌, Bool, true, false, cond, ◌||◌, eqb, ltb, leb, ◌≢◌, ◌⊎◌, List, [], ◌∷◌, ◌++◌, length, take, drop, sym, refl, ap, ◌∙◌, subst, ap₂, inl, inr, arith}
-use Rattle.std.proofs.lemmas.Bool.{cases_bool, both_ways, or_cases, or_left, or_right, eqb-true, leb-true, leb-false, cond-true, cond-false}
+use Rattle.std.proofs.lemmas.Bool.{cases_Bool, both_ways, or_cases, or_left, or_right, eqb-true, leb-true, leb-false, cond-true, cond-false}
 use Rattle.std.proofs.lemmas.Bool.Decides.{nat_tests}
 use Rattle.graphs.specs.declared.Link.{Link}
 use Rattle.graphs.specs.Thin.{Block, holds, reduced}
@@ -35,13 +35,13 @@ some-late absent ps (x ∷ ks) k a l = elim (or_cases (eqb k x) (among k ks) a) 
 
 -- Whole means that each link of the least forest is placed before the absent place.
 pub whole-low : (absent : ℕ) (ps : List ℕ) (es : List Link) → torn_at absent ps es ≡ false → (f : Link) → In f (forest_at ps es) → place_of ps f.number < absent
-whole-low absent ps es h f i = elim (cases_bool (leb absent (place_of ps f.number))) [
+whole-low absent ps es h f i = elim (cases_Bool (leb absent (place_of ps f.number))) [
   | inl t ↦ absurd (both_ways (torn_at absent ps es) h (some-late absent ps (tree_at ps es) f.number (among-holds f.number (forest_at ps es) ∙ in-holds i) t))
   | inr t ↦ leb-false absent (place_of ps f.number) t
 ]
 
 pub low-whole : (absent : ℕ) (ps : List ℕ) (es : List Link) → ((f : Link) → In f (forest_at ps es) → place_of ps f.number < absent) → torn_at absent ps es ≡ false
-low-whole absent ps es h = elim (cases_bool (torn_at absent ps es)) [
+low-whole absent ps es h = elim (cases_Bool (torn_at absent ps es)) [
   | inl t ↦
       let r = late-some absent ps (tree_at ps es) t in
       let q = holds-in r.0 (forest_at ps es) (sym (among-holds r.0 (forest_at ps es)) ∙ r.1) in
@@ -94,9 +94,9 @@ module _ (absent : ℕ) (places : List ℕ) (cs : List (Move ℕ)) (g : Block)
       (among-holds k (forest_at ps g.links) ∙ keeps.same ps (stay-agrees ps s) k ∙ or_right (holds k ms) (holds k (forest_at ps t)) in_t) r.2
 
   pub torn-thinned : (ps : List ℕ) → Stay ps → torn_at absent ps g.links ≡ torn_at absent ps (thinned_for places cs g).links
-  torn-thinned ps s = elim (cases_bool (torn_at absent ps g.links)) [
+  torn-thinned ps s = elim (cases_Bool (torn_at absent ps g.links)) [
     | inl h ↦ h ∙ sym (torn-to ps s h)
-    | inr h ↦ elim (cases_bool (torn_at absent ps (thinned_for places cs g).links)) [
+    | inr h ↦ elim (cases_Bool (torn_at absent ps (thinned_for places cs g).links)) [
       | inl k ↦ absurd (both_ways (torn_at absent ps g.links) h (torn-from ps s k))
       | inr k ↦ h ∙ sym k
     ]
@@ -128,7 +128,7 @@ pub tear-none : (absent : ℕ) (ps : List ℕ) (es : List Link) (cs : List (Move
     → torn_at absent (moved_by ps cs) es ≡ false
 unfolding first_tear_by moved_by
 tear-none absent ps es [] w h = w
-tear-none absent ps es (c ∷ cs) w h = elim (cases_bool (torn_at absent (moved ps c) es)) [
+tear-none absent ps es (c ∷ cs) w h = elim (cases_Bool (torn_at absent (moved ps c) es)) [
   | inl t ↦ absurd (zero-suc _ (sym (cond-true _ _ _ t) ∙ h))
   | inr t ↦ tear-none absent (moved ps c) es cs t (pred-same _ _ (sym (cond-false _ _ _ t) ∙ h))
 ]

@@ -1,7 +1,7 @@
 -- Tallies of parts.
 use Rattle.std.proofs.Common.{◌≡◌, ℕ, suc, ◌+◌, ◌-◌, ◌<◌, ◌≤◌, Bool, true, false, cond, ltb, List, [], ◌∷◌, ◌++◌, length, get_or, take, drop, sym, refl, ap, ◌∙◌, subst, ap₂, inl, inr, arith}
 use Rattle.std.proofs.lemmas.List.{length-append, take-append-drop, take_all}
-use Rattle.std.proofs.lemmas.Bool.{cases_bool, both_ways, cond-true, cond-false, ltb-true, ltb-false, lt-ltb, le-ltb}
+use Rattle.std.proofs.lemmas.Bool.{cases_Bool, both_ways, cond-true, cond-false, ltb-true, ltb-false, lt-ltb, le-ltb}
 use Rattle.std.proofs.lemmas.Bool.Decides.{nat_tests}
 use Rattle.graphs.specs.declared.Link.{Link}
 use Rattle.graphs.specs.Thin.{Block}
@@ -35,7 +35,7 @@ told-append t r s w v ps es cs ds x y =
           let f = x.tells a p h k in
           let e = tear-append a ps es cs ds in
           let low = tear-low a ps es cs in
-          elim (cases_bool (ltb (first_tear a ps es cs) (length cs))) [
+          elim (cases_Bool (ltb (first_tear a ps es cs) (length cs))) [
             | inl u ↦
                 let b = y.stays (f.1 ∙ u) in
                 let q : first_tear a ps es (cs ++ ds) ≡ first_tear a ps es cs = e ∙ cond-true _ _ _ u in

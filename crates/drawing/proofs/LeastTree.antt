@@ -1,6 +1,6 @@
 -- The least tree of sound tables: whether the present links join all nodes, told by counting, and the tree table.
 use Rattle.std.proofs.Common.{◌≡◌, ℕ, suc, ◌+◌, ◌-◌, ◌/◌, ◌<◌, ◌≤◌, Bool, true, false, ◌⊎◌, List, [], ◌∷◌, ◌++◌, length, get_or, take, drop, sym, refl, ap, ◌∙◌, subst, ap₂, inl, inr, arith}
-use Rattle.std.proofs.lemmas.Bool.{cases_bool}
+use Rattle.std.proofs.lemmas.Bool.{cases_Bool}
 use Rattle.std.proofs.lemmas.List.{get_or-take, length-take-le}
 use Rattle.weights.specs.declared.order.Side.{Side}
 use Rattle.network.specs.declared.types.Ends.{Ends}
@@ -44,7 +44,7 @@ module _ {W : Type 0} (side : W → W → Side) (laws : Sided side) (n : ℕ) (e
       let j = joined_length n L (present-within w) (present-distinct ends links) (link_before side links) (strict-links side laws links) s in
       let a = all-joined n L s in (
         λ e. a.1 (j.1 e),
-        λ h. elim (cases_bool (all_joined n L)) [ inl t ↦ absurd (h (j.0 (a.0 t))) | inr f ↦ f ],
+        λ h. elim (cases_Bool (all_joined n L)) [ inl t ↦ absurd (h (j.0 (a.0 t))) | inr f ↦ f ],
       )
 
   -- A table's front of k links is the forest: so many, each with a number that fits, and their numbers ascending.

@@ -1,7 +1,7 @@
 -- The present links, listed by index, are those of the network's graph.
 use Rattle.std.proofs.Common.{◌≡◌, ℕ, zero, suc, ◌+◌, ◌-◌, ◌*◌, ◌/◌, ◌<◌, ◌≤◌, Bool, true, false, cond, ◌⊎◌, List, [], ◌∷◌, ◌++◌, map, length, get_or, take, drop, sym, refl, ap, ◌∙◌, subst, ap₂, inl, inr, add-one, arith, length-drop}
 use Rattle.std.proofs.lemmas.List.{get_or-map, drop_more, take_all, take-append-le, length-append, length-take-le}
-use Rattle.std.proofs.lemmas.Bool.{cases_bool, cond_both, cond-true, cond-false}
+use Rattle.std.proofs.lemmas.Bool.{cases_Bool, cond_both, cond-true, cond-false}
 use Rattle.weights.specs.declared.standing.Standing.{Standing}
 use Rattle.weights.specs.declared.standing.Standing.TheVariants.{At, Absent}
 use Rattle.network.specs.declared.types.Ends.{Ends}
@@ -56,7 +56,7 @@ module _ {W : Type 0} (ends : List Ends) (links : List (LinkState W)) where
       let g : Link = record { number = suc i; a = record { 0 = e.a.0 }; b = record { 0 = e.b.0 } } in
       let same : link_at ends i ≡ g = λ t. record { number = suc i; a = record { 0 = (sought v t).a.0 }; b = record { 0 = (sought v t).b.0 } } in
       let f : here-now g ≡ s.present = flag_at i s u.0 u.1 in
-      elim (cases_bool s.present) [
+      elim (cases_Bool s.present) [
         | inl t ↦
             ap (map (link_at ends)) (cond-true s.present (i ∷ present_indexes (i + 1) ss) (present_indexes (i + 1) ss) t)
             ∙ ap₂ (λ (x : Link) (xs : List Link). x ∷ xs) same r

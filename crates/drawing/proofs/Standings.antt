@@ -2,7 +2,7 @@
 use Rattle.std.proofs.Common.{◌≡◌, ℕ, suc, ◌<◌, Bool, true, false, ◌&&◌, ◌||◌, ltb, List, length, get_or, sym, refl, ap, ◌∙◌, inl, inr, arith}
 use Rattle.std.specs.Cmp.{IsStrictWeakOrder}
 use Rattle.std.proofs.lemmas.List.{get_or-map}
-use Rattle.std.proofs.lemmas.Bool.{cases_bool, both_ways}
+use Rattle.std.proofs.lemmas.Bool.{cases_Bool, both_ways}
 use Rattle.std.proofs.lemmas.Bool.Decides.{nat_tests}
 use Rattle.weights.specs.declared.order.Side.{Side}
 use Rattle.weights.specs.declared.order.Side.TheVariants.{Before, Level, After}
@@ -53,11 +53,11 @@ before-told {W} side links i j x y hi hj u v s t eu ev es et =
 -- A strict total order ranks.
 pub ranks-strict : (lt : ℕ → ℕ → Bool) → Strict lt → IsStrictWeakOrder lt
 ranks-strict lt o = record {
-  one_way = λ i j h. elim (cases_bool (lt j i)) [
+  one_way = λ i j h. elim (cases_Bool (lt j i)) [
     | inr n ↦ n
     | inl t ↦ absurd (both_ways (lt i i) (o.apart i) (o.chain i j i h t))
   ];
-  chain = λ i j k h l. elim (cases_bool (lt i k)) [
+  chain = λ i j k h l. elim (cases_Bool (lt i k)) [
     | inr n ↦ n
     | inl t ↦ elim (o.total i j) [
       | inl y ↦ absurd (both_ways (lt i j) h y)

@@ -1,6 +1,6 @@
 -- When one link's place in the order changes, the least forest changes by at most one link out and one in.
 use Rattle.std.proofs.Common.{◌≡◌, ℕ, ◌≤◌, Bool, true, false, eqb, ◌≢◌, List, [], ◌∷◌, length, sym, refl, ap, ◌∙◌, inl, inr, arith}
-use Rattle.std.proofs.lemmas.Bool.{cases_bool, both_ways, cases_eq, not_from_false, ne_eqb}
+use Rattle.std.proofs.lemmas.Bool.{cases_Bool, both_ways, cases_eq, not_from_false, ne_eqb}
 use Rattle.graphs.specs.declared.Link.{Link}
 use Rattle.graphs.specs.Graph.{In, here, later}
 use Rattle.graphs.specs.Forest.{Strict, forest}
@@ -44,7 +44,7 @@ module _ (c : ℕ) {lt lt' : ℕ → ℕ → Bool} {es : List Link} (s : Strict 
   -- A link that differs is in the thinned graph,
   differs : (k : ℕ) → (holds k (forest lt es) ≡ holds k (forest lt' es) → ⊥) → holds k thin ≡ true
   differs k n =
-      elim (cases_bool (holds k thin)) [
+      elim (cases_Bool (holds k thin)) [
         | inl t ↦ t
         | inr u ↦ absurd (n (thinned-gone (λ k. eqb k c) lt (record { nodes = 0; links = es }) s d s (record { same = λ j k p q. refl }) k u
             ∙ sym (thinned-gone (λ k. eqb k c) lt (record { nodes = 0; links = es }) s d s' a k u)))
@@ -65,13 +65,13 @@ module _ (c : ℕ) {lt lt' : ℕ → ℕ → Bool} {es : List Link} (s : Strict 
   -- Where a link leaves that is not c, c comes in.
   leaves-for : (k : ℕ) → k ≢ c → Leaves k (forest lt es) (forest lt' es) → Leaves c (forest lt' es) (forest lt es)
   leaves-for k m l =
-      elim (cases_bool (holds c (forest lt' es))) [
+      elim (cases_Bool (holds c (forest lt' es))) [
         | inr u ↦ absurd (stays (λ q. both_ways _ u q.0))
-        | inl t ↦ elim (cases_bool (holds c (forest lt es))) [ inr u ↦ (t, u) | inl u ↦ absurd (stays (λ q. both_ways _ q.1 u)) ]
+        | inl t ↦ elim (cases_Bool (holds c (forest lt es))) [ inr u ↦ (t, u) | inl u ↦ absurd (stays (λ q. both_ways _ q.1 u)) ]
       ]
     where
       stays : (Leaves c (forest lt' es) (forest lt es) → ⊥) → ⊥
-      stays n = replaced s s' d k l (λ f i. elim (cases_bool (holds f.number (forest lt es))) [
+      stays n = replaced s s' d k l (λ f i. elim (cases_Bool (holds f.number (forest lt es))) [
         | inl t ↦ t
         | inr u ↦ elim (cases_eq f.number c) [
           | inl h ↦ absurd (n (held i h, rw h at u))

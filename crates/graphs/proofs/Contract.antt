@@ -1,6 +1,6 @@
 -- The contraction: merged links are always in the least forest, and it changes no other link's place in or out.
 use Rattle.std.proofs.Common.{◌≡◌, ℕ, Bool, true, false, cond, not, ◌||◌, eqb, List, ◌++◌, refl, ap, ◌∙◌, inl, inr}
-use Rattle.std.proofs.lemmas.Bool.{cases_bool, both_ways, not-true, not_from_false, ne_eqb, eqb-false, or_cases, or_left, or_right}
+use Rattle.std.proofs.lemmas.Bool.{cases_Bool, both_ways, not-true, not_from_false, ne_eqb, eqb-false, or_cases, or_left, or_right}
 use Rattle.graphs.specs.declared.Link.{Link}
 use Rattle.graphs.specs.Graph.{In, Walk}
 use Rattle.graphs.specs.Forest.{Strict, forest, filtered, befores}
@@ -78,7 +78,7 @@ module _ {named : ℕ → Bool} {lt lt' : ℕ → ℕ → Bool} {es : List Link}
   -- The least forest is the merged links and the least forest of the contracted graph.
   pub contracted-same : (k : ℕ) → holds k (forest lt' es) ≡ (holds k ms || holds k (forest lt' (relabel ms es)))
   contracted-same k = holds_as k (forest lt' es) (holds k ms || holds k (forest lt' (relabel ms es)))
-      (λ e i h. elim (cases_bool (holds k ms)) [
+      (λ e i h. elim (cases_Bool (holds k ms)) [
         | inl t ↦ or_left _ _ t
         | inr u ↦ or_right _ _ (held (contracts i (λ m. both_ways _ u (held m h))) h)
       ])

@@ -1,6 +1,6 @@
 -- Orders of link numbers.
 use Rattle.std.proofs.Common.{ℕ, Bool, ltb, inl, inr, arith}
-use Rattle.std.proofs.lemmas.Bool.{cases_order, cases_eq, cases_bool, lt-ltb}
+use Rattle.std.proofs.lemmas.Bool.{cases_order, cases_eq, cases_Bool, lt-ltb}
 use Rattle.std.proofs.lemmas.Bool.Decides.{nat_tests}
 use Rattle.graphs.specs.Forest.{Strict}
 use Rattle.graphs.specs.Thin.{named_first}
@@ -21,7 +21,7 @@ strict-named named lt o = record {
   total = λ j k. elim (cases_eq j k) [
     | inl e ↦ inr (inl e)
     | inr n ↦
-        elim (cases_bool (named_first named lt j k)) [
+        elim (cases_Bool (named_first named lt j k)) [
           | inl h ↦ inl h
           | inr h ↦ let t = o.total j k in inr (inr (grind (arith, nat_tests)))
         ]

@@ -1,6 +1,6 @@
 -- The reduction: links that it drops are never in the least forest, and it changes no other link's place in or out.
 use Rattle.std.proofs.Common.{◌≡◌, ℕ, Bool, true, false, not, ◌⊎◌, List, sym, refl, ap, ◌∙◌, inl, inr}
-use Rattle.std.proofs.lemmas.Bool.{cases_bool, not-true, not_from_false}
+use Rattle.std.proofs.lemmas.Bool.{cases_Bool, not-true, not_from_false}
 use Rattle.graphs.specs.declared.Link.{Link}
 use Rattle.graphs.specs.Graph.{In, Walk}
 use Rattle.graphs.specs.Forest.{Strict, forest, befores}
@@ -53,7 +53,7 @@ module _ {named : ℕ → Bool} {lt lt' : ℕ → ℕ → Bool} {es : List Link}
   -- The reduced links that are not after a link join its ends.
   pub bypass : {e : Link} → In e es → Walk (not_after lt' e (reduced named lt es)) e.a.0 e.b.0
   bypass {e} i =
-      elim (cases_bool (named e.number)) [
+      elim (cases_Bool (named e.number)) [
         | inl t ↦ hop (in-sift _ (named-reduced named lt d i t) (not_from_false _ (s'.apart e.number)))
         | inr u ↦ walk-mono (λ f j.
             let q = sifted _ (forest lt (rest named es)) j in
@@ -77,7 +77,7 @@ module _ {named : ℕ → Bool} {lt lt' : ℕ → ℕ → Bool} {es : List Link}
   pub kept-reduced : {z : Link} → In z (forest lt' es) → In z (reduced named lt es)
   kept-reduced {z} i =
       let k = forest-in lt' es i in
-      elim (cases_bool (named z.number)) [
+      elim (cases_Bool (named z.number)) [
         | inl t ↦ named-reduced named lt d k t
         | inr u ↦ elim (drops s (filtered-apart _ d) (in-sift _ k (not_from_false _ u))) [
           | inl j ↦ other-reduced named lt d j

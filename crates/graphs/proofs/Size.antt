@@ -1,6 +1,6 @@
 -- A thinned graph has at most as many links that are not named as links that are.
 use Rattle.std.proofs.Common.{◌≡◌, ℕ, suc, ◌+◌, ◌*◌, ◌≤◌, Bool, false, not, ◌||◌, eqb, List, [], ◌∷◌, ◌++◌, length, sym, refl, ap, ◌∙◌, inl, inr, arith}
-use Rattle.std.proofs.lemmas.Bool.{eqb-true, cases_bool, both_ways, not-true, not_from_false}
+use Rattle.std.proofs.lemmas.Bool.{eqb-true, cases_Bool, both_ways, not-true, not_from_false}
 use Rattle.graphs.specs.declared.Link.{Link}
 use Rattle.graphs.specs.Graph.{In, here, later, Walk}
 use Rattle.graphs.specs.Forest.{Strict, Distinct, placed, ordered, greedy, forest, filtered}
@@ -83,7 +83,7 @@ module _ (named : ℕ → Bool) (lt : ℕ → ℕ → Bool) (g : Block) (s : Str
       let fs = forest (named_first named lt) (reduced named lt g.links) in
       walk-mono (λ f j.
       let q = sifted _ fs j in
-      elim (cases_bool (named f.number)) [
+      elim (cases_Bool (named f.number)) [
         | inl t ↦ in_left (merges named lt g) (in-sift _ q.0 t)
         | inr u ↦ in_right (chosen named fs) (in-sift _ q.0 (not_from_false _ u))
       ])

@@ -1,6 +1,6 @@
 -- The least forest, by walks: which links it keeps, that it spans, and that it has no loop.
 use Rattle.std.proofs.Common.{◌≡◌, ℕ, Bool, true, false, not, ◌⊎◌, List, refl, inl, inr}
-use Rattle.std.proofs.lemmas.Bool.{cases_bool, both_ways, not-true, not_from_false}
+use Rattle.std.proofs.lemmas.Bool.{cases_Bool, both_ways, not-true, not_from_false}
 use Rattle.graphs.specs.declared.Link.{Link}
 use Rattle.graphs.specs.Graph.{In, Walk}
 use Rattle.graphs.specs.Forest.{Strict, filtered, forest, befores}
@@ -41,7 +41,7 @@ module _ {lt : ℕ → ℕ → Bool} (s : Strict lt) where
     pub spans : {e : Link} → In e es → Walk (not_after lt e (forest lt es)) e.a.0 e.b.0
     spans {e} i =
         joined-walk _ (forest-spans-part lt s es d.distinct (λ f. not (lt e.number f.number))
-        (λ g f h k. not_from_false _ (elim (cases_bool (lt e.number g.number))
+        (λ g f h k. not_from_false _ (elim (cases_Bool (lt e.number g.number))
         [ inl t ↦ absurd (both_ways _ (not-true _ k) (s.chain _ _ _ t h)) | inr u ↦ u ]))
         e (in-sift _ i (not_from_false _ (s.apart e.number))))
 

@@ -1,6 +1,6 @@
 -- A block's thinned graph has the least forests of the whole graph, but for the merged links.
 use Rattle.std.proofs.Common.{◌≡◌, ℕ, Bool, true, false, ◌||◌, sym, refl, ap, ◌∙◌, inl, inr}
-use Rattle.std.proofs.lemmas.Bool.{cases_bool, both_ways}
+use Rattle.std.proofs.lemmas.Bool.{cases_Bool, both_ways}
 use Rattle.graphs.specs.Forest.{Strict, forest}
 use Rattle.graphs.specs.Thin.{Block, holds, reduced, relabel, contracted, thinned}
 use Rattle.graphs.specs.Thinning.{relabelled, merges, Agree}
@@ -25,7 +25,7 @@ module _ (named : ℕ → Bool) (lt : ℕ → ℕ → Bool) (g : Block) (s : Str
 
   -- A link in the thinned graph is not merged.
   pub thinned-unmerged : (k : ℕ) → holds k (thinned named lt g).links ≡ true → holds k (merges named lt g) ≡ false
-  thinned-unmerged k h = elim (cases_bool (holds k (merges named lt g))) [
+  thinned-unmerged k h = elim (cases_Bool (holds k (merges named lt g))) [
     | inr u ↦ u
     | inl t ↦
         let ms = merges named lt g in

@@ -1,6 +1,6 @@
 -- Walks carried over to other links, and members of lists of links.
 use Rattle.std.proofs.Common.{◌≡◌, ℕ, Bool, true, false, eqb, ◌⊎◌, List, [], ◌∷◌, ◌++◌, sym, refl, ◌∙◌, inl, inr}
-use Rattle.std.proofs.lemmas.Bool.{cases_bool, both_ways, cond_both, eqb-true, eq-eqb}
+use Rattle.std.proofs.lemmas.Bool.{cases_Bool, both_ways, cond_both, eqb-true, eq-eqb}
 use Rattle.graphs.specs.declared.Link.{Link}
 use Rattle.graphs.specs.Graph.{In, here, later, Walk, stay, along, back}
 use Rattle.graphs.specs.Forest.{Distinct, filtered}
@@ -63,9 +63,9 @@ held i h = rw h at (in-holds i)
 
 pub holds_as : (k : ℕ) (es : List Link) (b : Bool) → ((e : Link) → In e es → e.number ≡ k → b ≡ true) → (b ≡ true → holds k es ≡ true) → holds k es ≡ b
 holds_as k es b f g =
-    elim (cases_bool (holds k es)) [
+    elim (cases_Bool (holds k es)) [
       | inl t ↦ let r = holds-in k es t in t ∙ sym (f r.0 r.1 r.2)
-      | inr u ↦ elim (cases_bool b) [ inl t ↦ absurd (both_ways _ u (g t)) | inr v ↦ u ∙ sym v ]
+      | inr u ↦ elim (cases_Bool b) [ inl t ↦ absurd (both_ways _ u (g t)) | inr v ↦ u ∙ sym v ]
     ]
 
 -- Distinct links. A record, so that antt finds the links from its type.

@@ -2,7 +2,7 @@
 use Rattle.std.proofs.Common.{◌≡◌, ℕ, zero, suc, ◌+◌, ◌-◌, ◌*◌, ◌/◌, ◌<◌, ◌≤◌, Bool, true, false, cond, not, ◌&&◌, ◌||◌, eqb, ltb, leb, ◌⊎◌, List, [], ◌∷◌, ◌++◌, map, length, get_or, take, drop, set, replicate, is_some, Some, None, Ok, Err, Option, Result, sym, refl, ap, ◌∙◌, subst, ap₂, inl, inr, append_assoc, append-nil, arith}
 use borrow.Rule.Slice.PartMut.{put_mid}
 use Rattle.std.proofs.lemmas.List.{length-set, length-map, length-drop, length-replicate, drop_all, take-append-drop, drop_more, take_more_set, get_or_past, get_or-set_same, get_or-set_other, map-set}
-use Rattle.std.proofs.lemmas.Bool.{both_ways, and_parts, cases_eq, cases_lt, cases_bool, ltb-true, eqb-false}
+use Rattle.std.proofs.lemmas.Bool.{both_ways, and_parts, cases_eq, cases_lt, cases_Bool, ltb-true, eqb-false}
 use Rattle.std.specs.Option.{option_map}
 use Rattle.faults.specs.declared.OpenFault.{OpenFault}
 use Rattle.faults.specs.declared.DrawFault.{DrawFault}
@@ -152,7 +152,7 @@ plans-stay call.Finish t a ds ps = refl
 -- A draw keeps off the slot of the player's plan.
 differ : (at slot : ℕ) → (false || not (eqb slot at)) ≡ true → at ≡ slot → ⊥
 differ at slot e q =
-    elim (cases_bool (eqb slot at)) [
+    elim (cases_Bool (eqb slot at)) [
       | inl t ↦ both_ways false refl (sym (ap (λ z. false || not z) t) ∙ e)
       | inr f ↦ eqb-false slot at f (sym q)
     ]

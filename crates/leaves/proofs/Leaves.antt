@@ -1,6 +1,6 @@
 -- The entry of a change on at most two links.
 use Rattle.std.proofs.Common.{◌≡◌, ℕ, zero, suc, ◌+◌, ◌-◌, ◌<◌, ◌≤◌, min, max, Bool, true, false, cond, ◌||◌, eqb, ltb, ◌⊎◌, List, [], ◌∷◌, ◌++◌, map, length, get_or, set, sym, refl, ap, ◌∙◌, subst, ap₂, inl, inr, arith}
-use Rattle.std.proofs.lemmas.Bool.{cases_eq, cases_bool, cond-true, cond-false, cond_both, both_ways, eq-eqb, ne_eqb}
+use Rattle.std.proofs.lemmas.Bool.{cases_eq, cases_Bool, cond-true, cond-false, cond_both, both_ways, eq-eqb, ne_eqb}
 use Rattle.std.proofs.lemmas.Bool.Decides.{nat_tests}
 use Rattle.graphs.specs.declared.Link.{Link}
 use Rattle.graphs.specs.Graph.{label, merged, joins, In, here, later}
@@ -38,7 +38,7 @@ two-crossed e f n j = two e f ∙ cond-false _ _ _ n ∙ ap (λ (l : List Link).
 
 two-open : (e f : Link) → (eqb e.a.0 e.b.0 ≡ false → eqb (merged e.a.0 e.b.0 f.a.0) (merged e.a.0 e.b.0 f.b.0) ≡ eqb f.a.0 f.b.0) → greedy [] (e ∷ f ∷ []) ≡ only e ++ only f
 unfolding only
-two-open e f h = elim (cases_bool (eqb e.a.0 e.b.0)) [
+two-open e f h = elim (cases_Bool (eqb e.a.0 e.b.0)) [
   | inl t ↦ two e f ∙ cond-true _ _ _ t ∙ ap (λ (l : List Link). l ++ only f) (sym (cond-true (eqb e.a.0 e.b.0) [] (e ∷ []) t))
   | inr t ↦ two e f ∙ cond-false _ _ _ t ∙ ap (λ b. e ∷ cond b [] (f ∷ [])) (h t) ∙ ap (λ (l : List Link). l ++ only f) (sym (cond-false (eqb e.a.0 e.b.0) [] (e ∷ []) t))
 ]
@@ -72,7 +72,7 @@ module _ (ps : List ℕ) (e f : Link) where
       let c = cross-true e.a.0 e.b.0 f.a.0 f.b.0 h in
       let w : cond (crossing e.a.0 e.b.0 f.a.0 f.b.0) (cond (place_before ps e.number f.number) e.number f.number) 0 ≡ cond (place_before ps e.number f.number) e.number f.number = cond-true _ _ _ h in
       ap (λ l. numbers (greedy [] l)) (two-ordered (place_before ps) e f)
-      ∙ elim (cases_bool (place_before ps e.number f.number)) [
+      ∙ elim (cases_Bool (place_before ps e.number f.number)) [
         | inl t ↦ ap (λ l. numbers (greedy [] l)) (cond-true _ _ _ t) ∙ ap numbers (two-crossed e f c.0 c.1) ∙ one_number e
             ∙ ap (λ (k : ℕ). k ∷ []) (sym (w ∙ cond-true _ _ _ t))
         | inr t ↦ ap (λ l. numbers (greedy [] l)) (cond-false _ _ _ t) ∙ ap numbers (two-crossed f e c.2 c.3) ∙ one_number f
@@ -82,7 +82,7 @@ module _ (ps : List ℕ) (e f : Link) where
   pub tree-open : ltb e.number f.number ≡ true → crossing e.a.0 e.b.0 f.a.0 f.b.0 ≡ false → tree_at ps (e ∷ f ∷ []) ≡ numbers (only e ++ only f)
   tree-open l h =
       ap (λ l. numbers (greedy [] l)) (two-ordered (place_before ps) e f)
-      ∙ elim (cases_bool (place_before ps e.number f.number)) [
+      ∙ elim (cases_Bool (place_before ps e.number f.number)) [
         | inl t ↦ ap (λ l. numbers (greedy [] l)) (cond-true _ _ _ t) ∙ ap numbers (two-open e f (cross-false e.a.0 e.b.0 f.a.0 f.b.0 h))
         | inr t ↦ ap (λ l. numbers (greedy [] l)) (cond-false _ _ _ t) ∙ ap numbers (two-open f e (cross-back e.a.0 e.b.0 f.a.0 f.b.0 h)) ∙ sym (both e f l)
       ]
@@ -126,7 +126,7 @@ pub leaf-entry : (ps qs : List ℕ) (es : List Link) → length es ≤ 2 → Asc
 unfolding winner told
 leaf-entry ps qs [] l a = none-same ps qs
 leaf-entry ps qs (e ∷ []) l a = one_same ps qs e
-leaf-entry ps qs (e ∷ f ∷ []) l a = elim (cases_bool (crossing e.a.0 e.b.0 f.a.0 f.b.0)) [
+leaf-entry ps qs (e ∷ f ∷ []) l a = elim (cases_Bool (crossing e.a.0 e.b.0 f.a.0 f.b.0)) [
   | inl h ↦ ap₂ entry (tree-crossed ps e f h) (tree-crossed qs e f h) ∙ entry-singles (winner ps (e ∷ f ∷ [])) (winner qs (e ∷ f ∷ []))
   | inr h ↦
       let x : winner ps (e ∷ f ∷ []) ≡ 0 = cond-false _ _ _ h in

@@ -2,7 +2,7 @@
 use Rattle.std.proofs.Common.{◌≡◌, ℕ, zero, suc, ◌+◌, ◌-◌, ◌<◌, ◌≤◌, Bool, true, false, cond, ltb, List, length, get_or, set, sym, refl, ap, ◌∙◌, inl, inr, arith}
 use Rattle.std.specs.Cmp.{IsStrictWeakOrder}
 use Rattle.std.specs.List.Sorted.{IsPermutation}
-use Rattle.std.proofs.lemmas.Bool.{cases_eq, cases_bool, cases_lt, ltb-false, le-ltb, lt-ltb, cond-true, cond-false}
+use Rattle.std.proofs.lemmas.Bool.{cases_eq, cases_Bool, cases_lt, ltb-false, le-ltb, lt-ltb, cond-true, cond-false}
 use Rattle.std.proofs.lemmas.List.{get_or-set_same, get_or-set_other}
 use Rattle.std.proofs.ByRecursion.{has_shuffled, has_get_or}
 use Rattle.forests.specs.Heap.{Sorted}
@@ -36,7 +36,7 @@ module _ (lt : ℕ → ℕ → Bool) (f : ℕ → ℕ) where
   rank-low zero = omega arith
   rank-low (suc k) =
       let h = rank-low k in
-      elim (cases_bool (lt (f k) (f (suc k)))) [
+      elim (cases_Bool (lt (f k) (f (suc k)))) [
         | inl t ↦ let c : ◌≡◌ {A = ℕ} (cond (lt (f k) (f (suc k))) 1 0) 1 = cond-true (lt (f k) (f (suc k))) 1 0 t in omega arith
         | inr t ↦ let c : ◌≡◌ {A = ℕ} (cond (lt (f k) (f (suc k))) 1 0) 0 = cond-false (lt (f k) (f (suc k))) 1 0 t in omega arith
       ]
@@ -52,11 +52,11 @@ module _ (lt : ℕ → ℕ → Bool) (f : ℕ → ℕ) where
           | inr ne ↦
               let h = rank_right a b (omega arith) (omega arith) in
               let s : suc b - 1 ≡ b = omega arith in
-              elim (cases_bool (lt (f b) (f (suc b)))) [
+              elim (cases_Bool (lt (f b) (f (suc b)))) [
                 | inl t ↦
                     let r = rank_up (suc b) (omega arith) (rw s t) in
                     let q : rank lt f (suc b) ≡ rank lt f b + 1 = rw s at r in
-                    let up : lt (f a) (f (suc b)) ≡ true = elim (cases_bool (lt (f a) (f (suc b)))) [
+                    let up : lt (f a) (f (suc b)) ≡ true = elim (cases_Bool (lt (f a) (f (suc b)))) [
                       | inl y ↦ y
                       | inr y ↦ let z = o.chain _ _ _ (so a b (omega arith) (omega arith) (omega arith)) y in y ∙ sym z ∙ t
                     ] in
@@ -64,8 +64,8 @@ module _ (lt : ℕ → ℕ → Bool) (f : ℕ → ℕ) where
                 | inr t ↦
                     let r = rank-level (suc b) (omega arith) (rw s t) in
                     let q : rank lt f (suc b) ≡ rank lt f b = rw s at r in
-                    let w : lt (f a) (f (suc b)) ≡ lt (f a) (f b) = elim (cases_bool (lt (f a) (f b))) [
-                      | inl y ↦ elim (cases_bool (lt (f a) (f (suc b)))) [
+                    let w : lt (f a) (f (suc b)) ≡ lt (f a) (f b) = elim (cases_Bool (lt (f a) (f b))) [
+                      | inl y ↦ elim (cases_Bool (lt (f a) (f (suc b)))) [
                         | inl z ↦ z ∙ sym y
                         | inr z ↦ let x = o.chain _ _ _ z (so b (suc b) (omega arith) (omega arith) m) in z ∙ sym x
                       ]

@@ -2,7 +2,7 @@
 use Rattle.std.proofs.Common.{◌≡◌, ℕ, ◌+◌, ◌<◌, ◌||◌, ltb, leb, List, [], ◌∷◌, ◌++◌, map, length, get_or, refl, ap, ◌∙◌, ap₂, inl, inr, arith}
 use Rattle.std.specs.Cmp.{IsStrictWeakOrder}
 use Rattle.std.proofs.lemmas.List.{length-map, length-append, length_push, get_or_append_left, get_or_push}
-use Rattle.std.proofs.lemmas.Bool.{cases_bool, both_ways, or_from}
+use Rattle.std.proofs.lemmas.Bool.{cases_Bool, both_ways, or_from}
 use Rattle.std.proofs.lemmas.Bool.Decides.{nat_tests}
 use Rattle.weights.specs.declared.order.Side.{Side}
 use Rattle.weights.specs.declared.order.Side.TheVariants.{Before, Level, After}
@@ -24,7 +24,7 @@ module _ {W : Type 0} (side : W → W → Side) (laws : Sided side) where
       let o = lawful-standing side laws in
       record {
         one_way = λ i j h. o.opposed (get_or ss i Absent) (get_or ss j Absent) h;
-        chain = λ i j k h l. elim (cases_bool (stands_before side ss i k)) [
+        chain = λ i j k h l. elim (cases_Bool (stands_before side ss i k)) [
           | inr n ↦ n
           | inl t ↦ absurd (both_ways (stands_before side ss i j || stands_before side ss j k) (or_from _ _ h l)
               (o.between (get_or ss i Absent) (get_or ss j Absent) (get_or ss k Absent) t))

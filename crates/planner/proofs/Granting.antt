@@ -1,6 +1,6 @@
 -- Refusals of a batch in their order, and the network at the end of one that is granted.
 use Rattle.std.proofs.Common.{◌≡◌, ℕ, zero, suc, ◌+◌, ◌-◌, ◌*◌, ◌<◌, ◌≤◌, Bool, true, false, cond, ◌||◌, eqb, ltb, List, [], ◌∷◌, ◌++◌, length, drop, is_some, Some, None, Ok, Err, Option, Result, sym, refl, ap, ◌∙◌, subst, ap₂, inl, inr, arith}
-use Rattle.std.proofs.lemmas.Bool.{cases_bool, cond-true, cond-false, both_ways, lt-ltb}
+use Rattle.std.proofs.lemmas.Bool.{cases_Bool, cond-true, cond-false, both_ways, lt-ltb}
 use Rattle.std.proofs.lemmas.Bool.Decides.{nat_tests}
 use Rattle.faults.specs.declared.OpenFault.{OpenFault}
 use Rattle.faults.specs.declared.OpenFault.TheVariants.{NotJoined}
@@ -35,7 +35,7 @@ none-some None e = refl
 none-some (Some x) e = absurd (both_ways true e refl)
 
 pub parted-none : (p : ℕ) → parted_fault p ≡ None → p ≡ 0
-parted-none p e = elim (cases_bool (eqb p 0)) [
+parted-none p e = elim (cases_Bool (eqb p 0)) [
   | inl t ↦ grind (arith, nat_tests)
   | inr f ↦ absurd (let q = sym (cond-false (eqb p 0) None (Some (Parted p)) f) ∙ e in let z : ◌≡◌ {A = ℕ} 0 1 = cc in omega arith)
 ]
@@ -81,7 +81,7 @@ pub joined-after : {W : Type 0} (k n : ℕ) (ends : List Ends) (links : List (Li
 unfolding parted_from changed_by
 joined-after k n ends links [] h j p = j
 joined-after k n ends links (c ∷ cs) h j p =
-    elim (cases_bool (all_joined n (present_links (changed links c) (graph_of ends)))) [
+    elim (cases_Bool (all_joined n (present_links (changed links c) (graph_of ends)))) [
       | inl t ↦ joined-after (suc k) n ends (changed links c) cs (omega arith) t
           (sym (cond-true (all_joined n (present_links (changed links c) (graph_of ends))) (parted_from (suc k) n ends (changed links c) cs) k t) ∙ p)
       | inr f ↦ absurd (omega (arith, sym (cond-false (all_joined n (present_links (changed links c) (graph_of ends))) (parted_from (suc k) n ends (changed links c) cs) k f) ∙ p))

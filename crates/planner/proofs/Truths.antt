@@ -1,6 +1,6 @@
 -- What is true of a draw follows from what it answers.
 use Rattle.std.proofs.Common.{◌≡◌, ℕ, zero, suc, ◌+◌, ◌*◌, ◌<◌, ◌≤◌, Bool, true, false, cond, ◌||◌, eqb, ltb, List, [], ◌∷◌, length, take, Some, None, Ok, Err, Option, sym, refl, ap, ◌∙◌, subst, inl, inr, arith}
-use Rattle.std.proofs.lemmas.Bool.{cases_bool, cond_both, cond-true, cond-false, both_ways}
+use Rattle.std.proofs.lemmas.Bool.{cases_Bool, cond_both, cond-true, cond-false, both_ways}
 use Rattle.std.proofs.lemmas.Bool.Decides.{nat_tests}
 use Rattle.faults.specs.declared.DrawFault.{DrawFault}
 use Rattle.faults.specs.declared.DrawFault.TheVariants.{NotOpened, ChangeCount, ShortTables, LinkOutside, RemoveAbsent, Parted}
@@ -30,7 +30,7 @@ module _ {W : Type 0} (n : ℕ) (ends : List Ends) where
   whole-all k links [] h j p (suc t) = j
   whole-all k links (c ∷ cs) h j p (suc t) =
       let J = all_joined n (present_links (changed links c) (graph_of ends)) in
-      elim (cases_bool J) [
+      elim (cases_Bool J) [
         | inl b ↦ whole-all (suc k) (changed links c) cs (omega arith) b (sym (cond-true J (parted_from (suc k) n ends (changed links c) cs) k b) ∙ p) t
         | inr b ↦ absurd (omega (arith, sym (cond-false J (parted_from (suc k) n ends (changed links c) cs) k b) ∙ p))
       ]
@@ -42,7 +42,7 @@ module _ {W : Type 0} (n : ℕ) (ends : List Ends) where
   parted-first k i links [] j p h = absurd (omega arith)
   parted-first k i links (c ∷ cs) j p h =
       let J = all_joined n (present_links (changed links c) (graph_of ends)) in
-      elim (cases_bool J) [
+      elim (cases_Bool J) [
         | inl b ↦
             let r = parted-first (suc k) i (changed links c) cs b (sym (cond-true J (parted_from (suc k) n ends (changed links c) cs) k b) ∙ p) h in
             (omega (arith, r.0), later-whole r, later-parted r)
@@ -105,7 +105,7 @@ changes-part i links (c ∷ cs) =
 parts_at : (o : Option DrawFault) (p i : ℕ) → parting o ≡ false → or_else o (parted_fault p) ≡ Some (Parted i) → (p ≡ i) × (1 ≤ i)
 unfolding parting
 parts_at None p i h e =
-    elim (cases_bool (eqb p 0)) [
+    elim (cases_Bool (eqb p 0)) [
       | inl t ↦ absurd (let q = sym (cond-true (eqb p 0) None (Some (Parted p)) t) ∙ e in let z : ◌≡◌ {A = ℕ} 0 1 = cc in omega arith)
       | inr f ↦ let q : Some (Parted p) ≡ Some (Parted i) = sym (cond-false (eqb p 0) None (Some (Parted p)) f) ∙ e in
           let r : p ≡ i = cc in (r, grind (arith, nat_tests))

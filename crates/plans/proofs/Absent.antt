@@ -1,6 +1,6 @@
 -- Links of the last values: whether the others join all nodes shows in the least forest of all.
 use Rattle.std.proofs.Common.{◌≡◌, ℕ, Bool, true, ◌&&◌, ◌||◌, ltb, ◌↔◌, List, inl, inr}
-use Rattle.std.proofs.lemmas.Bool.{cases_bool, both_ways, and_parts, or_cases, or_left, or_right}
+use Rattle.std.proofs.lemmas.Bool.{cases_Bool, both_ways, and_parts, or_cases, or_left, or_right}
 use Rattle.graphs.specs.declared.Link.{Link}
 use Rattle.graphs.specs.Graph.{In}
 use Rattle.graphs.specs.Forest.{Distinct, filtered, forest}
@@ -39,7 +39,7 @@ module _ {V : Type 0} (s : Scale V) (l : Lawful s) (test : V → Bool)
   all_pass n w a f i =
       let lt = before_by s table in
       let v = w f (forest-sub lt es f i) in
-      elim (cases_bool (passes f)) [
+      elim (cases_Bool (passes f)) [
         | inl h ↦ h
         | inr h ↦
             absurd (unjoined (forest-loopfree lt es f i) (joined-mono

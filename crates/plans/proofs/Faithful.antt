@@ -2,7 +2,7 @@
 use Rattle.std.proofs.Common.{◌≡◌, ℕ, ◌<◌, eqb, ltb, leb, List, map, length, get_or, sym, refl, ap, ◌∙◌, inl, inr, arith}
 use lib.ListN.{length-map}
 use Rattle.std.proofs.lemmas.List.{length-append}
-use Rattle.std.proofs.lemmas.Bool.{cases_bool}
+use Rattle.std.proofs.lemmas.Bool.{cases_Bool}
 use Rattle.std.proofs.lemmas.Bool.Decides.{nat_tests}
 use Rattle.weights.specs.declared.order.Side.{Side}
 use Rattle.weights.specs.declared.standing.Standing.{Standing}
@@ -19,16 +19,16 @@ use Rattle.plans.proofs.Same.{Known, Alike, match-from, match-parts, match-moves
 -- How two places stand to each other, as tests.
 pub compared-before : (a b : ℕ) → ltb a b ≡ is_before (compared a b)
 compared-before a b =
-    elim (cases_bool (ltb a b)) [
+    elim (cases_Bool (ltb a b)) [
       | inl h ↦ rw h
-      | inr h ↦ elim (cases_bool (eqb a b)) [ inl k ↦ rw (h, k) | inr k ↦ rw (h, k) ]
+      | inr h ↦ elim (cases_Bool (eqb a b)) [ inl k ↦ rw (h, k) | inr k ↦ rw (h, k) ]
     ]
 
 pub compared-level : (a b : ℕ) → eqb a b ≡ is_level (compared a b)
 compared-level a b =
-    elim (cases_bool (ltb a b)) [
+    elim (cases_Bool (ltb a b)) [
       | inl h ↦ rw h (grind (arith, nat_tests))
-      | inr h ↦ elim (cases_bool (eqb a b)) [ inl k ↦ rw (h, k) | inr k ↦ rw (h, k) ]
+      | inr h ↦ elim (cases_Bool (eqb a b)) [ inl k ↦ rw (h, k) | inr k ↦ rw (h, k) ]
     ]
 
 -- A place and a standing at one position of the two pools.

@@ -1,7 +1,7 @@
 -- A move changes the order of one link only; what it exchanges; a plan replayed.
 use Rattle.std.proofs.Common.{◌≡◌, ℕ, zero, suc, ◌<◌, ◌≤◌, false, ◌≢◌, ◌⊎◌, ◌↔◌, List, [], ◌∷◌, length, get_or, take, refl, ap, ◌∙◌, inl, inr, arith}
 use Rattle.std.proofs.lemmas.List.{get_or-set_other}
-use Rattle.std.proofs.lemmas.Bool.{cases_bool, eqb-false}
+use Rattle.std.proofs.lemmas.Bool.{cases_Bool, eqb-false}
 use Rattle.graphs.specs.declared.Link.{Link}
 use Rattle.graphs.specs.Graph.{In}
 use Rattle.graphs.specs.Forest.{Distinct, forest}
@@ -47,7 +47,7 @@ module _ {V : Type 0} (s : Scale V) (l : Lawful s) (es : List Link) (d : Distinc
   module _ (numbered : (e : Link) → In e es → 1 ≤ e.number) where
     pub tree-numbered : (table : List V) → among 0 (tree_by s table es) ≡ false
     tree-numbered table =
-        elim (cases_bool (among 0 (tree_by s table es))) [
+        elim (cases_Bool (among 0 (tree_by s table es))) [
           | inr h ↦ h
           | inl h ↦
               let r = numbers-in 0 (forest_by s table es) h in

@@ -1,7 +1,7 @@
 -- The ascending numbers of links.
 use Rattle.std.proofs.Common.{◌≡◌, ℕ, true, false, eqb, ltb, List, [], ◌∷◌, map, length, sym, refl, ◌∙◌, inl, inr, arith}
 use lib.ListN.{length-map}
-use Rattle.std.proofs.lemmas.Bool.{or_cases, or_left, or_right, eqb-true, eq-eqb, ltb-true, both_ways, cases_bool}
+use Rattle.std.proofs.lemmas.Bool.{or_cases, or_left, or_right, eqb-true, eq-eqb, ltb-true, both_ways, cases_Bool}
 use Rattle.graphs.specs.declared.Link.{Link}
 use Rattle.graphs.specs.Graph.{In, here, later}
 use Rattle.graphs.specs.Forest.{Distinct, ordered}
@@ -42,9 +42,9 @@ numbers-in k es h = let r = map-among k (ordered ltb es) h in (r.0, ordered-in l
 -- A number is among those of the links exactly if one of the links has it.
 pub among-holds : (k : ℕ) (es : List Link) → among k (numbers es) ≡ holds k es
 among-holds k es =
-    elim (cases_bool (holds k es)) [
+    elim (cases_Bool (holds k es)) [
       | inl h ↦ let r = holds-in k es h in rw r.2 at (in-numbers r.1) ∙ sym h
-      | inr h ↦ elim (cases_bool (among k (numbers es))) [
+      | inr h ↦ elim (cases_Bool (among k (numbers es))) [
         | inr u ↦ u ∙ sym h
         | inl u ↦ let r = numbers-in k es u in absurd (both_ways (holds k es) h (held r.1 r.2))
       ]

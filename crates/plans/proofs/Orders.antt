@@ -1,6 +1,6 @@
 -- The order by value and number is a strict total order.
 use Rattle.std.proofs.Common.{ℕ, List, inl, inr, arith}
-use Rattle.std.proofs.lemmas.Bool.{cases_eq, cases_bool}
+use Rattle.std.proofs.lemmas.Bool.{cases_eq, cases_Bool}
 use Rattle.std.proofs.lemmas.Bool.Decides.{nat_tests}
 use Rattle.graphs.specs.Forest.{Strict}
 use Rattle.plans.specs.Places.{Scale, Lawful, value_of, before_by, by_place, place_before}
@@ -28,7 +28,7 @@ strict-by s l table = record {
         let v = value_of s.none table k in
         let p = l.tied u v in
         let q = l.tied v u in
-        elim (cases_bool (before_by s table j k)) [ inl h ↦ inl h | inr h ↦ inr (inr (grind (arith, nat_tests))) ]
+        elim (cases_Bool (before_by s table j k)) [ inl h ↦ inl h | inr h ↦ inr (inr (grind (arith, nat_tests))) ]
   ];
 }
 

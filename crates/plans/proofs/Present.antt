@@ -1,6 +1,6 @@
 -- The present links of a network, its least tree, and the first change after which the present links part.
 use Rattle.std.proofs.Common.{◌≡◌, ℕ, suc, ◌+◌, ◌≤◌, Bool, true, false, cond, not, ◌||◌, eqb, ltb, ◌↔◌, List, [], ◌∷◌, length, sym, refl, ap, ◌∙◌, inl, inr, arith}
-use Rattle.std.proofs.lemmas.Bool.{cases_bool, both_ways, eqb-true, or_cases, or_parts, eq-eqb, or_left, or_right}
+use Rattle.std.proofs.lemmas.Bool.{cases_Bool, both_ways, eqb-true, or_cases, or_parts, eq-eqb, or_left, or_right}
 use Rattle.std.proofs.lemmas.Bool.Decides.{nat_tests}
 use Rattle.weights.specs.declared.order.Side.{Side}
 use Rattle.weights.specs.declared.standing.Standing.{Standing}
@@ -99,11 +99,11 @@ module _ {W : Type 0} (side : W → W → Side) (o : Sided side) (ends : List En
         let F = forest_by s (standings links) es in
         let torn = torn_by (λ u. is_absent u) s (standings links) es in
         let j = all-joined n (present_links links es) some in
-        elim (cases_bool torn) [
+        elim (cases_Bool torn) [
           | inr u ↦ j.1 ((joined-iff links).1 (λ f i.
               not-absent (standing_at links f.number) (late-none (λ u. is_absent u) s (standings links) (numbers F) u f.number (in-numbers i))))
               ∙ sym (ap not u)
-          | inl u ↦ elim (cases_bool (all_joined n (present_links links es))) [
+          | inl u ↦ elim (cases_Bool (all_joined n (present_links links es))) [
             | inr v ↦ v ∙ sym (ap not u)
             | inl v ↦ absurd (both_ways torn (none-late (λ u. is_absent u) s (standings links) (numbers F) (λ k b.
                 let r = numbers-in k F b in

@@ -1,6 +1,6 @@
 -- Replaying a plan's entries gives the least forest at each moment.
 use Rattle.std.proofs.Common.{◌≡◌, ℕ, false, eqb, ◌⊎◌, List, sym, ◌∙◌, inl, inr, arith}
-use Rattle.std.proofs.lemmas.Bool.{cases_eq, cases_bool, cond_both, both_ways}
+use Rattle.std.proofs.lemmas.Bool.{cases_eq, cases_Bool, cond_both, both_ways}
 use Rattle.std.proofs.lemmas.Bool.Decides.{nat_tests}
 use Rattle.plans.specs.Plan.{among, Gone, Exchange, Ascending, first_but, entry, without, inserted, exchanged}
 use Rattle.plans.proofs.Ascending.{ascending-same, among-without, ascending-without, among-inserted, ascending-inserted, first-or}
@@ -27,8 +27,8 @@ module _ (xs ys : List ℕ) (a : Ascending xs) (b : Ascending ys) (none : among 
       let i = among-inserted k c (without l xs) in
       let p = first-at xs ys x.leaves k in
       let q = first-at ys xs x.comes k in
-      let u = cases_bool (among k xs) in
-      let v = cases_bool (among k ys) in
+      let u = cases_Bool (among k xs) in
+      let v = cases_Bool (among k ys) in
       cond_both (eqb c 0) (without l xs) (inserted c (without l xs)) (λ r. among k r ≡ among k ys)
       (λ e. grind (arith, nat_tests)) (λ e. grind (arith, nat_tests))
 

@@ -2,7 +2,7 @@
 use Rattle.std.proofs.Common.{◌≡◌, ℕ, zero, suc, ◌+◌, ◌<◌, ◌≤◌, Bool, true, false, not, ◌&&◌, ◌||◌, eqb, ltb, ◌⊎◌, List, [], ◌∷◌, length, get_or, take, set, Some, None, Option, sym, refl, ap, ◌∙◌, inl, inr, arith}
 use lib.ListN.{length-map}
 use Rattle.std.proofs.lemmas.Bool.Decides.{nat_tests}
-use Rattle.std.proofs.lemmas.Bool.{cases_bool, both_ways, lt-ltb}
+use Rattle.std.proofs.lemmas.Bool.{cases_Bool, both_ways, lt-ltb}
 use Rattle.weights.specs.declared.order.Side.{Side}
 use Rattle.weights.specs.declared.order.Side.TheVariants.{Before, Level, After}
 use Rattle.weights.specs.declared.standing.Standing.{Standing}
@@ -211,11 +211,11 @@ some-none {X} {x} e = both_ways false refl (sym (ap is_some e))
 fault-first : (n k : ℕ) (e : Ends) (es : List Ends) → first_end_fault n k (e ∷ es) ≡ None
     → ((no_node n e.a ≡ false) × (no_node n e.b ≡ false)) × (first_end_fault n (k + 1) es ≡ None)
 fault-first n k e es h =
-    elim (cases_bool (no_node n e.a)) [
+    elim (cases_Bool (no_node n e.a)) [
       | inl p ↦ absurd (some-none (rw p at h))
-      | inr p ↦ elim (cases_bool (no_node n e.b)) [
+      | inr p ↦ elim (cases_Bool (no_node n e.b)) [
         | inl q ↦ absurd (some-none (rw (p, q) at h))
-        | inr q ↦ elim (cases_bool (eqb e.a.0 e.b.0)) [
+        | inr q ↦ elim (cases_Bool (eqb e.a.0 e.b.0)) [
           | inl r ↦ absurd (some-none (rw (p, q, r) at h))
           | inr r ↦ ((p, q), rw (p, q, r) at h)
         ]

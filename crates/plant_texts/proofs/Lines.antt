@@ -1,7 +1,7 @@
 -- A line that was read, written out again.
 use Rattle.std.proofs.Common.{◌≡◌, ℕ, Bool, true, false, cond, eqb, ◌⊎◌, List, [], ◌∷◌, ◌++◌, Some, None, Ok, Err, codes, decimal, Option, Result, sym, refl, ap, ◌∙◌, inl, inr, ⊎_elim, arith}
 use Rattle.std.proofs.lemmas.List.{append-nil}
-use Rattle.std.proofs.lemmas.Bool.{cases_bool, eqb-true}
+use Rattle.std.proofs.lemmas.Bool.{cases_Bool, eqb-true}
 use Rattle.std.specs.Option.{option_map, ok_or}
 use Rattle.faults.specs.declared.TextFault.{TextFault}
 use Rattle.faults.specs.declared.TextFault.TheVariants.{Malformed}
@@ -48,7 +48,7 @@ letter-step c d l o k is next h =
     ⊎_elim
     (λ t. eqb-true c d t ∙ sym is ∙ ap code (some_same l k (ap (λ b. cond b (Some l) o) (sym t) ∙ h)))
     (λ f. next (ap (λ b. cond b (Some l) o) (sym f) ∙ h))
-    (cases_bool (eqb c d))
+    (cases_Bool (eqb c d))
 
 letter-code : (c : ℕ) (k : Letter) → letter_of c ≡ Some k → c ≡ code k
 letter-code c k =

@@ -2,7 +2,7 @@
 use Rattle.std.proofs.Common.{◌≡◌, ℕ, zero, suc, ◌+◌, ◌-◌, ◌*◌, ◌^◌, ◌<◌, ◌≤◌, Bool, true, false, cond, ◌&&◌, eqb, ltb, ◌⊎◌, List, [], ◌∷◌, ◌++◌, length, get_or, Some, None, decimal, Option, sym, refl, ap, ◌∙◌, subst, inl, inr, ⊎_elim, arith, rules}
 use Rattle.std.proofs.lemmas.Fmt.{digits_decimal, digits_value-decimal, decimal-digits_value, decimal_nonempty, decimal_digit, first_decimal}
 use Rattle.std.proofs.lemmas.Str.Parse.{IsNumeralModel, numerals_by_fold}
-use Rattle.std.proofs.lemmas.Bool.{cases_bool, cases_eq, cond-true, cond-false, lt-ltb, ltb-true, eqb-true, eqb-false, and_from, and_parts}
+use Rattle.std.proofs.lemmas.Bool.{cases_Bool, cases_eq, cond-true, cond-false, lt-ltb, ltb-true, eqb-true, eqb-false, and_from, and_parts}
 use Rattle.std.specs.Char.{is_ascii_digit}
 use Rattle.std.specs.Str.{all_ascii_digits}
 use Rattle.plant_texts.specs.Laws.{joined_by, PartsJoin, NumbersOneWay}
@@ -52,12 +52,12 @@ value-told n [] v h =
     ⊎_elim
     (λ t. let e : n ≡ v = cc (cond-true (ltb n 4294967296) (Some n) None t) in (refl, e, omega (arith, e, ltb-true n 4294967296 t)))
     (λ f. some-none v (sym (cond-false (ltb n 4294967296) (Some n) None f) ∙ h))
-    (cases_bool (ltb n 4294967296))
+    (cases_Bool (ltb n 4294967296))
 value-told n (c ∷ cs) v h =
     ⊎_elim
     (λ t. let r = value-told (n * 10 + (c - 48)) cs v (sym (cond-true (is_ascii_digit c) _ None t) ∙ h) in (and_from (is_ascii_digit c) (all_ascii_digits cs) t r.0, r.1, r.2))
     (λ f. some-none v (sym (cond-false (is_ascii_digit c) (value_from (n * 10 + (c - 48)) cs) None f) ∙ h))
-    (cases_bool (is_ascii_digit c))
+    (cases_Bool (is_ascii_digit c))
 
 numeral-told : (w : List ℕ) (n : ℕ) → numeral w ≡ Some n → (0 < length w) × (get_or w 0 0 ≡ 48 → length w ≡ 1) × (value_from 0 w ≡ Some n)
 unfolding numeral
@@ -67,7 +67,7 @@ numeral-told (b ∷ c ∷ bs) n h =
     ⊎_elim
     (λ t. some-none n (sym (cond-true (eqb b 48) None (value_from 0 (b ∷ c ∷ bs)) t) ∙ h))
     (λ f. (omega arith, λ e. absurd (eqb-false b 48 f e), sym (cond-false (eqb b 48) None (value_from 0 (b ∷ c ∷ bs)) f) ∙ h))
-    (cases_bool (eqb b 48))
+    (cases_Bool (eqb b 48))
 
 pub write_read : (n : ℕ) → n < 4294967296 → numeral (decimal n) ≡ Some n
 write_read n l =

@@ -2,7 +2,7 @@
 use Rattle.std.proofs.Common.{◌≡◌, ℕ, zero, suc, ◌+◌, ◌-◌, ◌<◌, ◌≤◌, Bool, true, false, cond, not, eqb, ltb, ◌≢◌, ◌⊎◌, List, [], ◌∷◌, ◌++◌, length, get_or, take, drop, set, Some, None, Option, sym, refl, ap, ◌∙◌, inl, inr, ⊎_elim, add-one, arith}
 use mathlib.Core.Bool.{beq}
 use Rattle.std.proofs.lemmas.List.{length-append, length-set, get_or_append_left, get_or_at, get_or-set_same, get_or-set_other, ext_get_or, take_more, length-take-le}
-use Rattle.std.proofs.lemmas.Bool.{eq-eqb, ne_eqb, eqb-true, cases_eq, cases_lt, cases_bool, false≢true, true≢false, cond-true, cond-false}
+use Rattle.std.proofs.lemmas.Bool.{eq-eqb, ne_eqb, eqb-true, cases_eq, cases_lt, cases_Bool, false≢true, true≢false, cond-true, cond-false}
 use Rattle.faults.specs.declared.PlayerFault.{PlayerFault}
 use Rattle.faults.specs.declared.FabricFault.TheVariants.{LinkOutside, CarriesAlready}
 use Rattle.faults.specs.declared.PlayerFault.TheVariants.{NotBlank, Refused}
@@ -116,7 +116,7 @@ sound-at m xs i h e =
     ⊎_elim
     (λ t. let f = fault-twice m xs i h z o t in let q : ◌≡◌ {A = ℕ} 0 1 = cc in absurd (omega arith))
     (λ t. record { some = z; within = o; first = t; next = fault-next m xs i h z o t ∙ e })
-    (cases_bool (mem (get_or xs i 0) (take i xs))))
+    (cases_Bool (mem (get_or xs i 0) (take i xs))))
     (cases_lt m (get_or xs i 0)))
     (cases_eq (get_or xs i 0) 0)
 

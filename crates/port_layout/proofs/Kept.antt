@@ -1,6 +1,6 @@
 -- Sound chains stay sound as a record is pushed or unlinked.
 use Rattle.std.proofs.Common.{◌≡◌, ℕ, ◌+◌, ◌-◌, ◌<◌, ◌≤◌, true, false, ◌⊎◌, List, ◌∷◌, sym, refl, ap, ◌∙◌, subst, inl, inr, arith}
-use Rattle.std.proofs.lemmas.Bool.{cases_bool, cases_eq, both_ways}
+use Rattle.std.proofs.lemmas.Bool.{cases_Bool, cases_eq, both_ways}
 use Rattle.port_layout.specs.Chains.{cell, chain, has, without, holder, Spells, Once, Kept, Sound}
 use Rattle.port_layout.proofs.Walks.{has-head, has_other, has-not-head, has-apart, has-without, has-without-other, has-without-self, once-without, few, chain-spelled, spelled-above, spells-moved, holder-place, spells-without}
 
@@ -126,7 +126,7 @@ module _ (n m : ℕ) (owner w w' : ℕ → ℕ) (K K' : ℕ → List ℕ) (s : K
       (λ z. omega (arith, z))
 
   elsewhere : (v y : ℕ) → v < n → (v ≡ owner r → ⊥) → has y (K v) ≡ true → has y (K (owner r)) ≡ false
-  elsewhere v y h d t = elim (cases_bool (has y (K (owner r))))
+  elsewhere v y h d t = elim (cases_Bool (has y (K (owner r))))
       [ inl u ↦ absurd (d (sym (s.own v y h t).1 ∙ (s.own (owner r) y vn u).1)) | inr f ↦ f ]
 
   pub unlink-kept : Kept n m owner w' K'
@@ -165,7 +165,7 @@ module _ (n m : ℕ) (owner w w' : ℕ → ℕ) (K K' : ℕ → List ℕ) (s : K
             | inl e ↦ ap (λ z. has y (K z)) e ∙ sym (has-without-other r y (K (owner r)) ne) ∙ sym (ap (λ z. has y (K' z)) e ∙ ap (has y) on) ∙ f
             | inr d ↦ sym (ap (has y) (off (owner y) d)) ∙ f
           ] in
-          let out : has y (K (owner r)) ≡ false = elim (cases_bool (has y (K (owner r))))
+          let out : has y (K (owner r)) ≡ false = elim (cases_Bool (has y (K (owner r))))
           [ inl u ↦ absurd (both_ways (has y (K (owner y))) g (ap (λ z. has y (K z)) (s.own (owner r) y vn u).1 ∙ u)) | inr q ↦ q ] in
           unlink-cell y y0 out ∙ s.loose y y0 ym g
     ];

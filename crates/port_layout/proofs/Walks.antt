@@ -1,6 +1,6 @@
 -- Chains of records in memory: what a walk meets, and what a push and an unlinking leave.
 use Rattle.std.proofs.Common.{◌≡◌, ℕ, zero, suc, ◌+◌, ◌-◌, ◌<◌, ◌≤◌, true, false, cond, eqb, ◌⊎◌, List, [], ◌∷◌, length, is_some, Some, None, sym, refl, ap, ◌∙◌, subst, inl, inr, arith}
-use Rattle.std.proofs.lemmas.Bool.{eq-eqb, ne_eqb, cases_bool, cases_eq, both_ways}
+use Rattle.std.proofs.lemmas.Bool.{eq-eqb, ne_eqb, cases_Bool, cases_eq, both_ways}
 use Rattle.port_layout.specs.Chains.{cell, chain, has, without, holder, found, Spells, Once}
 
 -- What is in a chain.
@@ -58,7 +58,7 @@ has-without-self r (x ∷ xs) o = elim (cases_eq x r) [
 ]
 
 pub not-has-without : (r y : ℕ) (xs : List ℕ) → has y xs ≡ false → has y (without r xs) ≡ false
-not-has-without r y xs f = elim (cases_bool (has y (without r xs)))
+not-has-without r y xs f = elim (cases_Bool (has y (without r xs)))
     [ inl t ↦ absurd (both_ways (has y xs) f (has-without r y xs t)) | inr g ↦ g ]
 
 pub once-without : (r : ℕ) (xs : List ℕ) → Once xs → Once (without r xs)

@@ -1,7 +1,7 @@
 -- The flags of a list of links, and flags that differ by an exchange.
 use Rattle.std.proofs.Common.{◌≡◌, ℕ, zero, suc, ◌-◌, ◌<◌, ◌≤◌, Bool, true, false, cond, ◌||◌, eqb, List, [], ◌∷◌, length, get_or, set, sym, refl, ap, ◌∙◌, inl, inr, arith}
 use Rattle.std.proofs.lemmas.List.{length-set, get_or-set_same, get_or-set_other, get_or_past, ext_get_or}
-use Rattle.std.proofs.lemmas.Bool.{cases_eq, cases_lt, cases_bool, cond_both, both_ways}
+use Rattle.std.proofs.lemmas.Bool.{cases_eq, cases_lt, cases_Bool, cond_both, both_ways}
 use Rattle.std.proofs.lemmas.Bool.Decides.{nat_tests}
 use Rattle.fabrics.specs.Meaning.{carries}
 use Rattle.plans.specs.Plan.{among, Gone, Exchange, first_but}
@@ -57,12 +57,12 @@ flags-exchanged m xs ys kx ky z x = record {
 }
   where
     same : (k : ℕ) → (k ≡ first_but xs ys → ⊥) → (k ≡ first_but ys xs → ⊥) → among k ys ≡ among k xs
-    same k p q = elim (cases_bool (among k xs)) [
-      | inl u ↦ elim (cases_bool (among k ys)) [
+    same k p q = elim (cases_Bool (among k xs)) [
+      | inl u ↦ elim (cases_Bool (among k ys)) [
         | inl v ↦ v ∙ sym u
         | inr v ↦ absurd (p (gone-first m xs ys kx ky x.leaves k (u, v)))
       ]
-      | inr u ↦ elim (cases_bool (among k ys)) [
+      | inr u ↦ elim (cases_Bool (among k ys)) [
         | inl v ↦ absurd (q (gone-first m ys xs ky kx x.comes k (v, u)))
         | inr v ↦ v ∙ sym u
       ]

@@ -1,7 +1,7 @@
 -- Where the first mark stands.
 use Rattle.std.proofs.Common.{◌≡◌, ℕ, zero, suc, ◌+◌, ◌-◌, ◌<◌, ◌≤◌, cond, eqb, List, [], ◌∷◌, length, get_or, take, drop, sym, refl, ap, ◌∙◌, ⊎_elim, arith, length-drop}
 use Rattle.std.proofs.lemmas.List.{length-take-le, take_rest}
-use Rattle.std.proofs.lemmas.Bool.{cond-true, cond-false, cases_bool, eq-eqb, ne_eqb}
+use Rattle.std.proofs.lemmas.Bool.{cond-true, cond-false, cases_Bool, eq-eqb, ne_eqb}
 use Rattle.text_words.specs.Split.{parts, on_first, Cut}
 
 pub parts_in : (mark b : ℕ) (bs : List ℕ) → b ≡ mark → parts mark (b ∷ bs) ≡ [] ∷ parts mark bs
@@ -49,4 +49,4 @@ parts-some mark (b ∷ bs) =
     ⊎_elim
     (λ e. ([], parts mark bs, cond-true _ _ _ e))
     (λ e. let o = on_first-some b (parts mark bs) in (o.0, o.1, cond-false _ _ _ e ∙ o.2))
-    (cases_bool (eqb b mark))
+    (cases_Bool (eqb b mark))

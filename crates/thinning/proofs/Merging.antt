@@ -1,6 +1,6 @@
 -- What thinning gives, from links and others in order.
 use Rattle.std.proofs.Common.{◌≡◌, ℕ, zero, suc, ◌-◌, ◌<◌, ◌≤◌, Bool, true, false, cond, not, eqb, ltb, ◌≢◌, ◌⊎◌, List, [], ◌∷◌, ◌++◌, length, get_or, take, sym, refl, ap, ◌∙◌, subst, inl, inr, arith}
-use Rattle.std.proofs.lemmas.Bool.{cases_bool, cond-true, cond-false, cond_both, eqb-true, not-true, not_from_false, both_ways}
+use Rattle.std.proofs.lemmas.Bool.{cases_Bool, cond-true, cond-false, cond_both, eqb-true, not-true, not_from_false, both_ways}
 use Rattle.std.proofs.lemmas.Bool.Decides.{nat_tests}
 use Rattle.graphs.specs.declared.Link.{Link}
 use Rattle.graphs.specs.Graph.{label, joins, In, here, later}
@@ -90,7 +90,7 @@ module _ (nm : ℕ → Bool) (lt : ℕ → ℕ → Bool) (o : Strict lt) (es : L
       (sorted-ordered lt o (rest nm es) (filtered-distinct _ es d)))
       (λ e f i j. let p = filtered-test _ es e i in let q = not-true _ (filtered-test _ es f (ordered-in lt (rest nm es) f j)) in grind (arith, nat_tests)))
       (λ e i. let m = ordered-in (named_first nm lt) es e i in
-      elim (cases_bool (nm e.number)) [
+      elim (cases_Bool (nm e.number)) [
         | inl t ↦ in_left (ordered lt (rest nm es)) (in-sift _ m t)
         | inr t ↦ in_right (chosen nm es) (in-ordered lt (rest nm es) e (in-sift _ m (not_from_false _ t)))
       ])
@@ -132,7 +132,7 @@ greedy-after : (q : Link → Bool) (B : List Link) → ((e : Link) → In e B �
     → ((e : Link) → In e A → q e ≡ false) → filtered q (greedy K (A ++ B)) ≡ greedy (stacked K' A) B
 unfolding stacked
 greedy-after q B p K K' [] h n = filtered-all q (greedy K B) (λ e i. p e (greedy-sub K B e i)) ∙ greedy-label K K' B h
-greedy-after q B p K K' (e ∷ A) h n = elim (cases_bool (joins K e.a.0 e.b.0)) [
+greedy-after q B p K K' (e ∷ A) h n = elim (cases_Bool (joins K e.a.0 e.b.0)) [
   | inl j ↦ ap (filtered q) (greedy-out K (A ++ B) e j)
       ∙ greedy-after q B p K (e ∷ K') A
       (λ x. h x ∙ sym (label_same e K' x (record { same = sym (h e.a.0) ∙ eqb-true _ _ j ∙ h e.b.0 })))

@@ -18,7 +18,7 @@ returns-in-Some c =
 
 pub loop-i-preserved : goal.loop-i-preserved
 loop-i-preserved c =
-    ap (λ o. or_else o (first_end_fault c.args.n (c.loop-i.i + 1 + 1) (drop (c.loop-i.i + 1) c.args.ends.now))) c.in-default.ensures
+    ap (λ o. or_else o (first_end_fault c.args.n (c.loop-i.i + 1 + 1) (drop (c.loop-i.i + 1) c.args.ends.now))) c.in_default.ensures
     ∙ sym (step c.args.n c.loop-i.i c.args.ends.now c.loop-i-test.true) ∙ c.loop-i.invariant
 
 pub returns : goal.returns

@@ -18,11 +18,11 @@ run-requires g c =
     let places = c.place-pool.new.places in
     let own = c.split-at-mut-own.result.0.now in
     let targets = c.split-at-mut-own.result.1.now in
-    let traced = c.trace.ensures.pooled c.in-default.is in
+    let traced = c.trace.ensures.pooled c.in_default.is in
     let size : length places ≡ length links + length batch + 1 = omega (arith, c.place-pool.auto.places, c.split-at-mut-places.ensures.front-len) in
     let front : length own ≡ length links = c.split-at-mut-own.ensures.front-len in
     let back : length targets ≡ length batch + 1 = omega (arith, size, c.split-at-mut-own.ensures.back_len) in
-    let known = granted-links 1 links batch (sym c.in-default.is ∙ c.trace.ensures.faults) in
+    let known = granted-links 1 links batch (sym c.in_default.is ∙ c.trace.ensures.faults) in
     record {
       nodes = c.requires.nodes;
       links = (c.requires.links.0, c.requires.links.2);
@@ -57,9 +57,9 @@ returns g c =
     let places = c.place-pool.new.places in
     let own = c.split-at-mut-own.result.0.now in
     let targets = c.split-at-mut-own.result.1.now in
-    let traced = c.trace.ensures.pooled c.in-default.is in
+    let traced = c.trace.ensures.pooled c.in_default.is in
     let size : length places ≡ length links + length batch + 1 = omega (arith, c.place-pool.auto.places, c.split-at-mut-places.ensures.front-len) in
     let front : length own ≡ length links = c.split-at-mut-own.ensures.front-len in
     let back : length targets ≡ length batch + 1 = omega (arith, size, c.split-at-mut-own.ensures.back_len) in
-    let p = told-plan side laws n ends links batch sources places own targets c.requires.nodes.0 c.requires.links.2 c.requires.links.1 c.requires.joined traced c.place-pool.ensures c.split-at-mut-own.ensures.value front back c.run.result c.run.new.out (sym c.in-default.is ∙ c.trace.ensures.faults) c.run.ensures.answer c.run.ensures.entries in
+    let p = told-plan side laws n ends links batch sources places own targets c.requires.nodes.0 c.requires.links.2 c.requires.links.1 c.requires.joined traced c.place-pool.ensures c.split-at-mut-own.ensures.value front back c.run.result c.run.new.out (sym c.in_default.is ∙ c.trace.ensures.faults) c.run.ensures.answer c.run.ensures.entries in
     record { answer = p.answer; entries = p.entries }

@@ -38,7 +38,7 @@ pub returns-in-None : goal.returns-in-None
 returns-in-None g c =
     let h = hand c.args.book.now c.args.plans.now c.args.changes.now c.args.start.now c.args.entries.now (length c.args.work.now) c.args.seat c.args.slot c.args.fabric.now in
     record {
-      made = play-waits g.W.Ordered.side g.F.Fabric.carrying c.args.call h (to-player c.args.call c.in-default.not-Open c.in-default.not-Draw)
+      made = play-waits g.W.Ordered.side g.F.Fabric.carrying c.args.call h (to-player c.args.call c.in_default.not-Open c.in_default.not-Draw)
           (sym (ap (λ n. get_or c.args.plans.now n None) c.place-of-at.ensures) ∙ sym c.in-None.ensures);
       lent = (refl, refl);
       same = refl {a = g.F.Fabric.shape c.args.fabric.now};
@@ -69,7 +69,7 @@ returns-in-Some g c =
       start = take (i.result.1 - i.result.0) (drop i.result.0 st);
       entries = take (j.result.1 - j.result.0) (drop j.result.0 en);
     } in
-    let tp = to-player c.args.call c.in-default.not-Open c.in-default.not-Draw in
+    let tp = to-player c.args.call c.in_default.not-Open c.in_default.not-Draw in
     record {
       made = play-makes g.W.Ordered.side g.F.Fabric.carrying c.args.call r.answer h k s d tp
           (sym (ap (λ n. get_or ps n None) c.place-of-at.ensures) ∙ sym c.in-Some.ensures) refl refl refl

@@ -24,8 +24,8 @@ returns-else-present-k-eq0 g c = λ links e.
     let k = c.link-of-k.ensures in
     judged-present c.args.i links c.args.change.now _ c.in-Remove.is (omega arith) (omega arith) (λ h. c.if-present-k-eq0.false (cc))
 
-pub returns-in-default : goal.returns-in-default
-returns-in-default g c = λ links e.
+pub returns-in_default : goal.returns-in_default
+returns-in_default g c = λ links e.
     let n = ap length e ∙ states-length links in
     let k = c.link-of-k.ensures in
-    judged-other c.args.i links c.args.change.now c.in-default.not-Remove (omega arith) (omega arith)
+    judged-other c.args.i links c.args.change.now c.in_default.not-Remove (omega arith) (omega arith)

@@ -36,7 +36,7 @@ make-change-requires g c =
     let l = c.loop-i in
     let room : length links + length batch ≤ nowhere = omega (arith, c.requires.few) in
     let k = traced-link links batch room l.i l.sources l.held l.present l.invariant c.index-batch-i.result c.loop-i-test.true c.index-batch-i.is
-    (c.in-default.ensures (links_at links batch l.i) l.invariant.tracks.state) in
+    (c.in_default.ensures (links_at links batch l.i) l.invariant.tracks.state) in
     let n = held-length (weights_of links batch) (links_at links batch l.i) l.held l.present l.invariant.tracks in
     let m = present-length (weights_of links batch) (links_at links batch l.i) l.held l.present l.invariant.tracks in
     (k.0, omega (arith, k.1), m ∙ sym n)
@@ -48,7 +48,7 @@ loop-i-preserved g c =
     let l = c.loop-i in
     let room : length links + length batch ≤ nowhere = omega (arith, c.requires.few) in
     traced-made links batch room l.i l.sources l.held l.present l.invariant c.index-batch-i.result c.loop-i-test.true c.index-batch-i.is
-    (c.in-default.ensures (links_at links batch l.i) l.invariant.tracks.state) c.make-change.result c.make-change.new.held c.make-change.new.present
+    (c.in_default.ensures (links_at links batch l.i) l.invariant.tracks.state) c.make-change.result c.make-change.new.held c.make-change.new.present
     (omega (arith, c.requires.room, l.auto.sources)) c.make-change.ensures.source c.make-change.ensures.held c.make-change.ensures.present
 
 pub returns : goal.returns

@@ -3,8 +3,8 @@ use Rattle.plant_lines.proofs.Lines.{line-bare, line-letter, line-words, line-to
 use Rattle.plant_lines.proofs.Telling.{is_err}
 use Rattle.plant_lines.proofs.line.read_line.Goals as goal
 
-pub returns-in-default : goal.returns-in-default
-returns-in-default g c = record { told = line-bare g.W.Weight.made _ _ c.in-default.ensures; room = refl }
+pub returns-in_default : goal.returns-in_default
+returns-in_default g c = record { told = line-bare g.W.Weight.made _ _ c.in_default.ensures; room = refl }
 
 pub returns-in-err-letter : goal.returns-in-err-letter
 returns-in-err-letter g c = record {

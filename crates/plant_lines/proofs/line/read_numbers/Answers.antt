@@ -18,12 +18,12 @@ loop-word-preserved c = (
 
 pub returns-in-err-number-2 : goal.returns-in-err-number-2
 returns-in-err-number-2 c = record {
-  told = and-err _ _ _ _ c.from-residual-in-err-number-2.ensures.1 (words-err _ _ _ c.loop-word.invariant.0 _ _ c.in-default.ensures _ _ c.in-err-number-2.ensures);
+  told = and-err _ _ _ _ c.from-residual-in-err-number-2.ensures.1 (words-err _ _ _ c.loop-word.invariant.0 _ _ c.in_default.ensures _ _ c.in-err-number-2.ensures);
   room = c.loop-word.invariant.2 ∙ c.clear.ensures.capacity;
 }
 
 pub returns : goal.returns
 returns c = record {
-  told = words-all _ _ _ c.loop-word.invariant.0 _ _ c.in-default.ensures _ _ _ refl c.in-ok-number-2.ensures c.push-reserved-2.ensures.items;
+  told = words-all _ _ _ c.loop-word.invariant.0 _ _ c.in_default.ensures _ _ _ refl c.in-ok-number-2.ensures c.push-reserved-2.ensures.items;
   room = c.push-reserved-2.ensures.capacity ∙ c.loop-word.invariant.2 ∙ c.clear.ensures.capacity;
 }

@@ -37,8 +37,8 @@ loop-front-preserved g c = (
 
 pub returns-then-not-is-empty : goal.returns-then-not-is-empty
 returns-then-not-is-empty g c =
-    body_open g.W.Weight.made (seen c.loop-front.tables) c.loop-front.line _ c.in-default.ensures (omega (arith, false-eqb _ 0 c.if-not-is-empty.ensures)) ∙ c.loop-front.invariant.1
+    body_open g.W.Weight.made (seen c.loop-front.tables) c.loop-front.line _ c.in_default.ensures (omega (arith, false-eqb _ 0 c.if-not-is-empty.ensures)) ∙ c.loop-front.invariant.1
 
 pub returns : goal.returns
 returns g c =
-    body_end g.W.Weight.made (seen c.loop-front.tables) c.loop-front.line _ c.in-default.ensures (true-eqb _ 0 c.if-not-is-empty.ensures) ∙ c.loop-front.invariant.1
+    body_end g.W.Weight.made (seen c.loop-front.tables) c.loop-front.line _ c.in_default.ensures (true-eqb _ 0 c.if-not-is-empty.ensures) ∙ c.loop-front.invariant.1

@@ -11,8 +11,8 @@ returns-then-input-gt-MAX-BYTES c = whole_long c.args.input.now (omega arith)
 pub returns-then-lacks-head : goal.returns-then-lacks-head
 returns-then-lacks-head c = whole-lacks c.args.input.now (omega arith) c.if-lacks-head.ensures
 
-pub returns-in-default : goal.returns-in-default
-returns-in-default c = whole_open c.args.input.now (omega arith) c.if-lacks-head.ensures c.in-default.ensures
+pub returns-in_default : goal.returns-in_default
+returns-in_default c = whole_open c.args.input.now (omega arith) c.if-lacks-head.ensures c.in_default.ensures
 
 pub returns-in-err-kind : goal.returns-in-err-kind
 returns-in-err-kind c =

@@ -12,7 +12,7 @@ pub light-requires : goal.light-requires
 light-requires g c =
     record {
       blank = agree-is _ _ (sym c.survey-found.ensures.0 ∙ c.if-found.true);
-      sound = sym c.in-default.ensures;
+      sound = sym c.in_default.ensures;
     }
 
 pub returns : goal.returns
@@ -21,7 +21,7 @@ returns g c =
     let k = g.F.Fabric.carrying c.args.fabric.now in
     let size : length k ≡ s.m = sym c.size.ensures ∙ c.if-size-plan.false in
     let fit : unfit s ≡ false = sym c.if-plan-unfit.ensures in
-    let sound : list_fault s.m [] (starts s) ≡ None = sym (rw sub-zero at c.in-default.ensures) in
+    let sound : list_fault s.m [] (starts s) ≡ None = sym (rw sub-zero at c.in_default.ensures) in
     let exact : c.survey-found.result.exact ≡ agree k (only s.m (starts s)) = rw sub-zero at c.survey-found.ensures.1 in
     elim c.if-found.branch [
       | then_found w ↦

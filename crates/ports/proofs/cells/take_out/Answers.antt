@@ -18,6 +18,6 @@ returns-in-Some c =
     c.write-in-Some.ensures
     ∙ ap (λ t. put t (cell n r) 0) (c.write.ensures ∙ ap (put bs c.in-Some.at) c.read-next.ensures.value ∙ ap (λ z. put bs z (word bs (cell n r))) e)
 
-pub returns-in-default : goal.returns-in-default
-returns-in-default c =
-    absurd (c.in-default.not-Some _ (c.find.ensures.value ∙ found-has c.args.n (word c.args.bytes.now) c.args.m c.args.head c.args.r c.requires.holds))
+pub returns-in_default : goal.returns-in_default
+returns-in_default c =
+    absurd (c.in_default.not-Some _ (c.find.ensures.value ∙ found-has c.args.n (word c.args.bytes.now) c.args.m c.args.head c.args.r c.requires.holds))

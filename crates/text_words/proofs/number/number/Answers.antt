@@ -1,7 +1,7 @@
 use Rattle.std.proofs.Common.{◌≡◌, ◌<◌, length, get_or, sym, ap, ◌∙◌, arith, rules, ltb-false, ltb-true}
 use Rattle.text_words.proofs.Values.{numeral-none, numeral-zero, numeral-is}
 use Rattle.text_words.proofs.number.number.Goals as goal
-use Rattle.text_words.proofs.number.number.Goals.{in-default-via-then-word-lt2, in-default-via-else-word-lt2+in-default·}
+use Rattle.text_words.proofs.number.number.Goals.{in_default-via-then-word-lt2, in_default-via-else-word-lt2+in_default·}
 
 pub returns-in-empty : goal.returns-in-empty
 returns-in-empty c = sym (numeral-none c.args.word.now (omega (arith, ltb-true)))
@@ -9,8 +9,8 @@ returns-in-empty c = sym (numeral-none c.args.word.now (omega (arith, ltb-true))
 pub returns-in-48 : goal.returns-in-48
 returns-in-48 c = sym (numeral-zero c.args.word.now (omega (arith, ltb-false)) (search rules))
 
-pub returns-in-default : goal.returns-in-default
-returns-in-default c =
-    let some : 0 < length c.args.word.now = elim c.in-default.branch [ in-default-via-then-word-lt2 w ↦ omega (arith, ltb-false, ltb-true) | in-default-via-else-word-lt2+in-default· w ↦ omega (arith, ltb-false) ] in
-    let plain : (1 < length c.args.word.now → get_or c.args.word.now 0 0 ≡ 48 → ⊥) = λ l e. elim c.in-default.branch [ in-default-via-then-word-lt2 w ↦ omega (arith, ltb-true) | in-default-via-else-word-lt2+in-default· w ↦ search rules ] in
+pub returns-in_default : goal.returns-in_default
+returns-in_default c =
+    let some : 0 < length c.args.word.now = elim c.in_default.branch [ in_default-via-then-word-lt2 w ↦ omega (arith, ltb-false, ltb-true) | in_default-via-else-word-lt2+in_default· w ↦ omega (arith, ltb-false) ] in
+    let plain : (1 < length c.args.word.now → get_or c.args.word.now 0 0 ≡ 48 → ⊥) = λ l e. elim c.in_default.branch [ in_default-via-then-word-lt2 w ↦ omega (arith, ltb-true) | in_default-via-else-word-lt2+in_default· w ↦ search rules ] in
     c.digits.ensures ∙ sym (numeral-is _ some plain)

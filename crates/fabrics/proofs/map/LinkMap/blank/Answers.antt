@@ -4,12 +4,12 @@ use Rattle.fabrics.specs.Map.{map_fault}
 use Rattle.fabrics.proofs.Blanks.{no-fault, zeroed, blank-at, length-blanked, fits, begins-blank}
 use Rattle.fabrics.proofs.map.LinkMap.blank.Goals as goal
 
-pub invariant-of-result-2 : goal.invariant-of-result-2
-invariant-of-result-2 c =
+pub invariant_of-result-2 : goal.invariant_of-result-2
+invariant_of-result-2 c =
     let m = c.args.m in
     let bs = c.args.bytes.now in
     let ys = c.fill.new.self in
-    let granted : map_fault m (length bs) ≡ None = sym c.map-fault-refusal.ensures ∙ no-fault c.map-fault-refusal.result (sym c.if-is-some.ensures) in
+    let granted : map_fault m (length bs) ≡ None = sym c.map_fault-refusal.ensures ∙ no-fault c.map_fault-refusal.result (sym c.if-is_some.ensures) in
     let zeros : ys ≡ replicate m 0 = search rules in
     let e : ys ++ drop (m - 0) bs ≡ blanked m bs = zeroed m ys bs zeros in
     let l = length-blanked m bs (fits m bs granted) in (
@@ -25,10 +25,10 @@ returns c =
     let m = c.args.m in
     let bs = c.args.bytes.now in
     let ys = c.fill.new.self in
-    let granted : map_fault m (length bs) ≡ None = sym c.map-fault-refusal.ensures ∙ no-fault c.map-fault-refusal.result (sym c.if-is-some.ensures) in
+    let granted : map_fault m (length bs) ≡ None = sym c.map_fault-refusal.ensures ∙ no-fault c.map_fault-refusal.result (sym c.if-is_some.ensures) in
     let zeros : ys ≡ replicate m 0 = search rules in
     record {
-      refusal = c.map-fault-refusal.ensures;
+      refusal = c.map_fault-refusal.ensures;
       outcome = begins-blank m bs granted _ (zeroed m ys bs zeros);
       lent = refl;
     }
