@@ -1,5 +1,5 @@
 -- Values by which links are ordered (places, or how links stand in a network), tables of them, and moves of links to other values.
-use Rattle.std.specs.Prelude.{◌≡◌, ℕ, zero, suc, Bool, true, false, not, ◌&&◌, ◌||◌, List, [], ◌∷◌, take, nat_lt, slice_index_or, slice_set}
+use Rattle.std.specs.Prelude.{◌≡◌, ℕ, zero, suc, Bool, true, false, not, ◌&&◌, ◌||◌, List, [], ◌∷◌, take, nat_eq, nat_lt, slice_index_or, slice_set}
 use Rattle.plans.specs.declared.Move.{Move}
 
 -- A scale of values: whether one is ahead of another, whether two are level, and the value of a number that is no link's.
@@ -44,7 +44,7 @@ table_at table batch t = moved_by table (take t batch)
 
 -- Places: the smaller number is ahead.
 abbrev pub by_place : Scale ℕ
-by_place = record { ahead = ltb; level = eqb; none = 0 }
+by_place = record { ahead = nat_lt; level = nat_eq; none = 0 }
 
 abbrev pub place_of : List ℕ → ℕ → ℕ
 place_of places k = value_of 0 places k

@@ -1,5 +1,5 @@
 -- The least forest at each moment of a batch, and what each change exchanges.
-use Rattle.std.specs.Prelude.{◌≡◌, ℕ, ◌<◌, Bool, true, false, cond, ◌||◌, ltb, ◌⊎◌, List, [], ◌∷◌, map, take, ◌==◌, nat_lt}
+use Rattle.std.specs.Prelude.{◌≡◌, ℕ, ◌<◌, Bool, true, false, cond, ◌||◌, ◌⊎◌, List, [], ◌∷◌, map, take, ◌==◌, nat_lt}
 use Rattle.graphs.specs.declared.Link.{Link}
 use Rattle.graphs.specs.Forest.{ordered, forest}
 use Rattle.plans.specs.declared.Move.{Move}
@@ -11,7 +11,7 @@ forest_by s table es = forest (before_by s table) es
 
 -- The links' numbers, ascending.
 unfoldable pub numbers : List Link → List ℕ
-numbers es = map (λ (e : Link). e.number) (ordered ltb es)
+numbers es = map (λ (e : Link). e.number) (ordered nat_lt es)
 
 -- The numbers of the least forest, ascending.
 abbrev pub tree_by : {V : Type 0} → Scale V → List V → List Link → List ℕ

@@ -12,13 +12,11 @@ invariant_of-result-2 c =
     let granted : map_fault m (length bs) ≡ None = sym c.map_fault-refusal.ensures ∙ no-fault c.map_fault-refusal.result (sym c.if-is_some.ensures) in
     let zeros : ys ≡ replicate m 0 = search rules in
     let e : ys ++ drop (m - 0) bs ≡ blanked m bs = zeroed m ys bs zeros in
-    let l = length-blanked m bs (fits m bs granted) in (
-      omega (arith, ap length e, l, fits m bs granted),
-      (
-        λ k h. omega (arith, ap (λ z. get_or z k 0) e, blank-at m bs k h),
-        tt,
-      ),
-    )
+    let l = length-blanked m bs (fits m bs granted) in
+    record {
+      fits = omega (arith, ap length e, l, fits m bs granted);
+      bits = λ k h. omega (arith, ap (λ z. get_or z k 0) e, blank-at m bs k h);
+    }
 
 pub returns : goal.returns
 returns c =

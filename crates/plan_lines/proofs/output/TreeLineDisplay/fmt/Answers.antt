@@ -11,7 +11,7 @@ loop-link-init g c = λ p. record { wrote = writes_in_calls_nil g.W.Write.write_
 pub loop-link-preserved : goal.loop-link-preserved
 loop-link-preserved g c = λ p.
     let so = c.loop-link.invariant p in
-    let more = c.in_ok-write.ensures.shows so.plain refl in
+    let more = c.in_ok-write.ensures.writes so.plain refl in
     has_written_of_eq g.W.Write.write_str_gives _ _ _ _ (spaced-more c.args.self.now.0.now c.loop-link.link-index c.loop-link-test.true) (has_written_append g.W.Write.write_str_gives _ _ _ _ _ so more)
 
 pub returns-clause-writes : goal.returns-clause-writes
