@@ -24,8 +24,8 @@ gather-r-requires c =
       under = λ e i. let b = c.requires.numbers e i in omega (arith, c.requires.tables.0);
     }
 
-pub sort-by-place-requires : goal.sort-by-place-requires
-sort-by-place-requires c =
+pub sort_by_place-requires : goal.sort_by_place-requires
+sort_by_place-requires c =
     let L : List Link = links_in c.args.links.now in
     let r : ℕ = c.gather-r.result in
     let os : List ℕ = c.gather-r.new.order in
@@ -40,9 +40,9 @@ pub pick-requires : goal.pick-requires
 pick-requires c =
     let r : ℕ = c.gather-r.result in
     let lo : length (take (r - 0) c.gather-r.new.order) ≡ r - 0 = length-take-le (r - 0) c.gather-r.new.order (omega (arith, c.gather-r.ensures.within, c.gather-r.auto.order, c.requires.room.1)) in
-    let lk : length c.sort-by-place.new.order ≡ length (take (r - 0) c.gather-r.new.order) = c.sort-by-place.auto.order in
+    let lk : length c.sort_by_place.new.order ≡ length (take (r - 0) c.gather-r.new.order) = c.sort_by_place.auto.order in
     let lt : length (take (r * 3 - 0) c.args.others.now) ≡ r * 3 - 0 = length-take-le (r * 3 - 0) c.args.others.now (omega (arith, c.gather-r.ensures.within, c.requires.room.0)) in
-    record { indexes = c.sort-by-place.ensures.indexes; room = omega arith }
+    record { indexes = c.sort_by_place.ensures.indexes; room = omega arith }
 
 pub returns : goal.returns
 returns c =
@@ -58,5 +58,5 @@ returns c =
     record {
       within = c.gather-r.ensures.within;
       ordered = links-before c.pick.new.out _ r (omega arith) ∙ take_all r (links_in c.pick.new.out) (omega arith) ∙ c.pick.ensures
-          ∙ c.sort-by-place.ensures.ordered ∙ ap (λ (l : List ℕ). ordered o (map f l)) z ∙ ap (ordered o) c.gather-r.ensures.others;
+          ∙ c.sort_by_place.ensures.ordered ∙ ap (λ (l : List ℕ). ordered o (map f l)) z ∙ ap (ordered o) c.gather-r.ensures.others;
     }

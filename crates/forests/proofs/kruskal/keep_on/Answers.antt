@@ -21,13 +21,13 @@ unite-requires c =
     let i = c.loop-i.i in
     let la = length-links c.args.links.now in
     let ll = length-links c.loop-i.links in
-    let at : get_or links i no_link ≡ c.link-at-e.result = links-at c.loop-i.links i no_link (omega arith) ∙ sym c.link-at-e.ensures in
+    let at : get_or links i no_link ≡ c.link_at-e.result = links-at c.loop-i.links i no_link (omega arith) ∙ sym c.link_at-e.ensures in
     let s = (next-same links all i no_link (omega arith) (omega arith) c.loop-i.invariant.1).0 in
     let ends = c.requires.ends i (omega arith) no_link in
     let n1 : length c.loop-i.parent ≡ length c.args.parent.now = omega arith in
-    let x : c.link-at-e.result.a.0 ≡ (get_or all i no_link).a.0 = ap (λ (e : Link). e.a.0) (sym at ∙ s) in
-    let y : c.link-at-e.result.b.0 ≡ (get_or all i no_link).b.0 = ap (λ (e : Link). e.b.0) (sym at ∙ s) in
-    record { falls = c.loop-i.invariant.2; a-within = omega arith; b-within = omega arith }
+    let x : c.link_at-e.result.a.0 ≡ (get_or all i no_link).a.0 = ap (λ (e : Link). e.a.0) (sym at ∙ s) in
+    let y : c.link_at-e.result.b.0 ≡ (get_or all i no_link).b.0 = ap (λ (e : Link). e.b.0) (sym at ∙ s) in
+    record { falls = c.loop-i.invariant.2; a_within = omega arith; b_within = omega arith }
 
 pub loop-i-preserved : goal.loop-i-preserved
 loop-i-preserved c =
@@ -41,14 +41,14 @@ loop-i-preserved c =
     let same = c.loop-i.invariant.1 in
     let lt : i < length all = omega arith in
     let e : Link = get_or links i no_link in
-    let at : e ≡ c.link-at-e.result = links-at c.loop-i.links i no_link (omega arith) ∙ sym c.link-at-e.ensures in
-    let ea : e.a.0 ≡ c.link-at-e.result.a.0 = ap (λ (e : Link). e.a.0) at in
-    let eb : e.b.0 ≡ c.link-at-e.result.b.0 = ap (λ (e : Link). e.b.0) at in
+    let at : e ≡ c.link_at-e.result = links-at c.loop-i.links i no_link (omega arith) ∙ sym c.link_at-e.ensures in
+    let ea : e.a.0 ≡ c.link_at-e.result.a.0 = ap (λ (e : Link). e.a.0) at in
+    let eb : e.b.0 ≡ c.link_at-e.result.b.0 = ap (λ (e : Link). e.b.0) at in
     let ps2 : List ℕ = c.unite.new.parent in
     let next = (next-same links all i no_link (omega arith) lt same).1 in
     elim c.if-unite.branch [
       | then-unite w ↦
-          let new : links_in c.if-unite.links ≡ set links k e = ap links_in w.links-is ∙ w.put-link.ensures ∙ ap (set links k) (sym at) in
+          let new : links_in c.if-unite.links ≡ set links k e = ap links_in w.links-is ∙ w.put_link.ensures ∙ ap (set links k) (sym at) in
           rw (new, w.k-is) (
             omega arith,
             drop-set-lt (i + 1) links k e (omega arith) ∙ next,

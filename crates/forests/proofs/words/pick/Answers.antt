@@ -8,8 +8,8 @@ use Rattle.forests.proofs.words.pick.Goals as goal
 pub loop-i-init : goal.loop-i-init
 loop-i-init c = refl
 
-pub link-at-requires : goal.link-at-requires
-link-at-requires c = omega (arith, c.requires.indexes c.loop-i.i c.loop-i-test.true)
+pub link_at-requires : goal.link_at-requires
+link_at-requires c = omega (arith, c.requires.indexes c.loop-i.i c.loop-i-test.true)
 
 pub loop-i-preserved : goal.loop-i-preserved
 loop-i-preserved c =
@@ -17,10 +17,10 @@ loop-i-preserved c =
     let out : List Link = links_in c.loop-i.out in
     let i = c.loop-i.i in
     let n = length-links c.loop-i.out in
-    let t = take_more_set out i c.link-at.result (omega arith) in
+    let t = take_more_set out i c.link_at.result (omega arith) in
     let m = map_more (link_in c.args.links.now) os i 0 c.loop-i-test.true in
-    let p = c.put-link.ensures in
-    let e = c.link-at.ensures in
+    let p = c.put_link.ensures in
+    let e = c.link_at.ensures in
     cc c.loop-i.invariant
 
 pub returns : goal.returns

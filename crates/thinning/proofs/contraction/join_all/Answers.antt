@@ -17,21 +17,21 @@ unite-requires c =
     let es : List Link = links_in c.args.links.now in
     let i = c.loop-i.i in
     let le = length-links c.args.links.now in
-    let at : get_or es i no_link ≡ c.link-at-e.result = links-at c.args.links.now i no_link (omega arith) ∙ sym c.link-at-e.ensures in
-    let ea : (get_or es i no_link).a.0 ≡ c.link-at-e.result.a.0 = ap (λ (e : Link). e.a.0) at in
-    let eb : (get_or es i no_link).b.0 ≡ c.link-at-e.result.b.0 = ap (λ (e : Link). e.b.0) at in
+    let at : get_or es i no_link ≡ c.link_at-e.result = links-at c.args.links.now i no_link (omega arith) ∙ sym c.link_at-e.ensures in
+    let ea : (get_or es i no_link).a.0 ≡ c.link_at-e.result.a.0 = ap (λ (e : Link). e.a.0) at in
+    let eb : (get_or es i no_link).b.0 ≡ c.link_at-e.result.b.0 = ap (λ (e : Link). e.b.0) at in
     let n : length c.loop-i.parent ≡ length c.args.parent.now = omega arith in
     let ends = ends-below _ es c.requires.ends i (omega arith) no_link in
-    record { falls = c.loop-i.invariant.0; a-within = omega arith; b-within = omega arith }
+    record { falls = c.loop-i.invariant.0; a_within = omega arith; b_within = omega arith }
 
 pub loop-i-preserved : goal.loop-i-preserved
 loop-i-preserved c =
     let es : List Link = links_in c.args.links.now in
     let i = c.loop-i.i in
     let le = length-links c.args.links.now in
-    let at : get_or es i no_link ≡ c.link-at-e.result = links-at c.args.links.now i no_link (omega arith) ∙ sym c.link-at-e.ensures in
-    let ea : (get_or es i no_link).a.0 ≡ c.link-at-e.result.a.0 = ap (λ (e : Link). e.a.0) at in
-    let eb : (get_or es i no_link).b.0 ≡ c.link-at-e.result.b.0 = ap (λ (e : Link). e.b.0) at in (
+    let at : get_or es i no_link ≡ c.link_at-e.result = links-at c.args.links.now i no_link (omega arith) ∙ sym c.link_at-e.ensures in
+    let ea : (get_or es i no_link).a.0 ≡ c.link_at-e.result.a.0 = ap (λ (e : Link). e.a.0) at in
+    let eb : (get_or es i no_link).b.0 ≡ c.link_at-e.result.b.0 = ap (λ (e : Link). e.b.0) at in (
       c.unite.ensures.falls,
       λ K h. rw (stacked-more K es i (omega arith)) (c.unite.ensures.joins (stacked K (take i es)) (get_or es i no_link) ea eb (c.loop-i.invariant.1 K h)).1,
     )

@@ -19,7 +19,7 @@ bounds-marks-e c =
     let es : List Link = links_in c.args.links.now in
     let i = c.loop-i.i in
     let le = length-links c.args.links.now in
-    let a = ap (λ (e : Link). e.number) (links-at c.args.links.now i no_link (omega arith) ∙ sym c.link-at-e.ensures) in
+    let a = ap (λ (e : Link). e.number) (links-at c.args.links.now i no_link (omega arith) ∙ sym c.link_at-e.ensures) in
     omega (arith, under_at _ es c.requires.under i no_link (omega arith))
 
 pub unite-requires : goal.unite-requires
@@ -27,24 +27,24 @@ unite-requires c =
     let es : List Link = links_in c.args.links.now in
     let i = c.loop-i.i in
     let le = length-links c.args.links.now in
-    let at : get_or es i no_link ≡ c.link-at-e.result = links-at c.args.links.now i no_link (omega arith) ∙ sym c.link-at-e.ensures in
-    let ea : (get_or es i no_link).a.0 ≡ c.link-at-e.result.a.0 = ap (λ (e : Link). e.a.0) at in
-    let eb : (get_or es i no_link).b.0 ≡ c.link-at-e.result.b.0 = ap (λ (e : Link). e.b.0) at in
+    let at : get_or es i no_link ≡ c.link_at-e.result = links-at c.args.links.now i no_link (omega arith) ∙ sym c.link_at-e.ensures in
+    let ea : (get_or es i no_link).a.0 ≡ c.link_at-e.result.a.0 = ap (λ (e : Link). e.a.0) at in
+    let eb : (get_or es i no_link).b.0 ≡ c.link_at-e.result.b.0 = ap (λ (e : Link). e.b.0) at in
     let n : length c.loop-i.parent ≡ length c.args.parent.now = omega arith in
     let ends = ends-below _ es c.requires.ends i (omega arith) no_link in
-    record { falls = c.loop-i.invariant.0; a-within = omega arith; b-within = omega arith }
+    record { falls = c.loop-i.invariant.0; a_within = omega arith; b_within = omega arith }
 
 pub loop-i-preserved : goal.loop-i-preserved
 loop-i-preserved c =
     let es : List Link = links_in c.args.links.now in
     let i = c.loop-i.i in
     let le = length-links c.args.links.now in
-    let at : get_or es i no_link ≡ c.link-at-e.result = links-at c.args.links.now i no_link (omega arith) ∙ sym c.link-at-e.ensures in
-    let ea : (get_or es i no_link).a.0 ≡ c.link-at-e.result.a.0 = ap (λ (e : Link). e.a.0) at in
-    let eb : (get_or es i no_link).b.0 ≡ c.link-at-e.result.b.0 = ap (λ (e : Link). e.b.0) at in
+    let at : get_or es i no_link ≡ c.link_at-e.result = links-at c.args.links.now i no_link (omega arith) ∙ sym c.link_at-e.ensures in
+    let ea : (get_or es i no_link).a.0 ≡ c.link_at-e.result.a.0 = ap (λ (e : Link). e.a.0) at in
+    let eb : (get_or es i no_link).b.0 ≡ c.link_at-e.result.b.0 = ap (λ (e : Link). e.b.0) at in
     let ms : List ℕ = c.args.marks.now in
     let p : Link → Bool = λ e. flag ms e.number in
-    let v : get_or ms (get_or es i no_link).number 0 ≡ get_or ms c.link-at-e.result.number 0 = ap (λ (e : Link). get_or ms e.number 0) at in
+    let v : get_or ms (get_or es i no_link).number 0 ≡ get_or ms c.link_at-e.result.number 0 = ap (λ (e : Link). get_or ms e.number 0) at in
     elim c.if-marks-e-eq1.branch [
       | then-marks-e-eq1 w ↦ rw w.parent-is (
         w.unite.ensures.falls,

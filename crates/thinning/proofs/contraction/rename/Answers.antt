@@ -28,8 +28,8 @@ bounds-name-e c =
     let la = length-links c.args.links.now in
     let ll = length-links c.loop-i.links in
     let u = unread (through c.args.name.now) L (links_in c.loop-i.links) i no_link (omega arith) c.loop-i.invariant in
-    let a = links-at c.loop-i.links i no_link (omega arith) ∙ sym c.link-at-e.ensures in
-    let x : c.link-at-e.result.a.0 ≡ (get_or L i no_link).a.0 = ap (λ (e : Link). e.a.0) (sym a ∙ u) in
+    let a = links-at c.loop-i.links i no_link (omega arith) ∙ sym c.link_at-e.ensures in
+    let x : c.link_at-e.result.a.0 ≡ (get_or L i no_link).a.0 = ap (λ (e : Link). e.a.0) (sym a ∙ u) in
     let b = ends-below _ L c.requires i (omega arith) no_link in
     omega arith
 
@@ -40,8 +40,8 @@ bounds-name-e-in-loop-i c =
     let la = length-links c.args.links.now in
     let ll = length-links c.loop-i.links in
     let u = unread (through c.args.name.now) L (links_in c.loop-i.links) i no_link (omega arith) c.loop-i.invariant in
-    let a = links-at c.loop-i.links i no_link (omega arith) ∙ sym c.link-at-e.ensures in
-    let x : c.link-at-e.result.b.0 ≡ (get_or L i no_link).b.0 = ap (λ (e : Link). e.b.0) (sym a ∙ u) in
+    let a = links-at c.loop-i.links i no_link (omega arith) ∙ sym c.link_at-e.ensures in
+    let x : c.link_at-e.result.b.0 ≡ (get_or L i no_link).b.0 = ap (λ (e : Link). e.b.0) (sym a ∙ u) in
     let b = ends-below _ L c.requires i (omega arith) no_link in
     omega arith
 
@@ -52,9 +52,9 @@ loop-i-preserved c =
     let i = c.loop-i.i in
     let la = length-links c.args.links.now in
     let ll = length-links c.loop-i.links in
-    let e : Link = c.link-at-e.result in
-    let r : e ≡ get_or M i e = sym (links-at c.loop-i.links i e (omega arith) ∙ sym c.link-at-e.ensures) in
-    c.put-link.ensures ∙ map_over_more (through c.args.name.now) L M i e (omega arith) c.loop-i.invariant r
+    let e : Link = c.link_at-e.result in
+    let r : e ≡ get_or M i e = sym (links-at c.loop-i.links i e (omega arith) ∙ sym c.link_at-e.ensures) in
+    c.put_link.ensures ∙ map_over_more (through c.args.name.now) L M i e (omega arith) c.loop-i.invariant r
 
 pub returns : goal.returns
 returns c =

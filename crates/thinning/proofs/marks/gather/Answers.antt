@@ -12,7 +12,7 @@ use Rattle.thinning.proofs.marks.gather.Goals.{then-marks-e-ne1, else-marks-e-ne
 pub bounds-marks-e : goal.bounds-marks-e
 bounds-marks-e c =
     let n = length-links c.args.links.now in
-    let a = ap (λ (e : Link). e.number) (links-at c.args.links.now c.loop-i.i no_link (omega arith) ∙ sym c.link-at-e.ensures) in
+    let a = ap (λ (e : Link). e.number) (links-at c.args.links.now c.loop-i.i no_link (omega arith) ∙ sym c.link_at-e.ensures) in
     omega (arith, under_at _ (links_in c.args.links.now) c.requires.under c.loop-i.i no_link (omega arith))
 
 pub loop-i-preserved : goal.loop-i-preserved
@@ -24,7 +24,7 @@ loop-i-preserved c =
     let k = c.loop-i.k in
     let lt : i < length ws / 3 = omega arith in
     let p : Link → Bool = λ e. not (flag ms e.number) in
-    let v : get_or ms c.link-at-e.result.number 0 ≡ get_or ms (link_in ws i).number 0 = ap (λ (e : Link). get_or ms e.number 0) c.link-at-e.ensures in
+    let v : get_or ms c.link_at-e.result.number 0 ≡ get_or ms (link_in ws i).number 0 = ap (λ (e : Link). get_or ms e.number 0) c.link_at-e.ensures in
     elim c.if-marks-e-ne1.branch [
       | then-marks-e-ne1 w ↦ rw (w.order-is, w.k-is) (
         omega arith,

@@ -13,7 +13,7 @@ loop-i-init c = c.requires.marked
 pub bounds-marks-e : goal.bounds-marks-e
 bounds-marks-e c =
     let n = length-links c.args.links.now in
-    let a = ap (λ (e : Link). e.number) (links-at c.args.links.now c.loop-i.i no_link (omega arith) ∙ sym c.link-at-e.ensures) in
+    let a = ap (λ (e : Link). e.number) (links-at c.args.links.now c.loop-i.i no_link (omega arith) ∙ sym c.link_at-e.ensures) in
     omega (arith, under_at _ (links_in c.args.links.now) c.requires.under c.loop-i.i no_link (omega arith))
 
 pub loop-i-preserved : goal.loop-i-preserved
@@ -21,7 +21,7 @@ loop-i-preserved c =
     let es : List Link = links_in c.args.links.now in
     let i = c.loop-i.i in
     let n = length-links c.args.links.now in
-    let a = ap (λ (e : Link). e.number) (links-at c.args.links.now i no_link (omega arith) ∙ sym c.link-at-e.ensures) in
+    let a = ap (λ (e : Link). e.number) (links-at c.args.links.now i no_link (omega arith) ∙ sym c.link_at-e.ensures) in
     let u : (get_or es i no_link).number < length c.loop-i.marks = omega (arith, under_at _ es c.requires.under i no_link (omega arith)) in
     subst (λ x. (k : ℕ) → flag (set c.loop-i.marks x 0) k ≡ true → holds k (drop (i + 1) es) ≡ true) a (unmark-more c.loop-i.marks es i (omega arith) u c.loop-i.invariant)
 
