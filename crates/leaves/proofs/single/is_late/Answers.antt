@@ -6,4 +6,4 @@ pub returns-then-e : goal.returns-then-e
 returns-then-e c = sym (cond-true _ _ _ (eq-eqb _ _ c.if-e.true))
 
 pub returns-else-e : goal.returns-else-e
-returns-else-e c = ap (λ x. leb c.args.absent x) c.place-of.ensures ∙ sym (cond-false _ _ _ (ne_eqb _ _ c.if-e.false))
+returns-else-e c = ap (λ x. leb c.args.absent x) c.place_of.ensures ∙ sym (cond-false _ _ _ (ne_eqb _ _ c.if-e.false))

@@ -17,56 +17,56 @@ pub returns-then-n-eq1 : goal.returns-then-n-eq1
 returns-then-n-eq1 c =
     let n = length-links c.args.links.now in
     let L : List Link = links_in c.args.links.now in
-    let x : get_or L 0 no_link ≡ c.link-at-e.result = links-at c.args.links.now 0 no_link (omega arith) ∙ sym c.link-at-e.ensures in
-    c.is-late.ensures ∙ torn-one c.args.absent c.args.places.now L c.link-at-e.result x (omega arith)
+    let x : get_or L 0 no_link ≡ c.link_at-e.result = links-at c.args.links.now 0 no_link (omega arith) ∙ sym c.link_at-e.ensures in
+    c.is_late.ensures ∙ torn-one c.args.absent c.args.places.now L c.link_at-e.result x (omega arith)
 
 pub returns-then-earlier : goal.returns-then-earlier
 returns-then-earlier c =
     let n = length-links c.args.links.now in
     let L : List Link = links_in c.args.links.now in
-    let E : Link = c.link-at-e.result in
-    let F : Link = c.link-at-f.result in
-    let x : get_or L 0 no_link ≡ E = links-at c.args.links.now 0 no_link (omega arith) ∙ sym c.link-at-e.ensures in
-    let y : get_or L 1 no_link ≡ F = links-at c.args.links.now 1 no_link (omega arith) ∙ sym c.link-at-f.ensures in
+    let E : Link = c.link_at-e.result in
+    let F : Link = c.link_at-f.result in
+    let x : get_or L 0 no_link ≡ E = links-at c.args.links.now 0 no_link (omega arith) ∙ sym c.link_at-e.ensures in
+    let y : get_or L 1 no_link ≡ F = links-at c.args.links.now 1 no_link (omega arith) ∙ sym c.link_at-f.ensures in
     let p = pair_is L E F x y (omega arith) c.requires.few in
-    c.is-late-then-earlier.ensures ∙ torn-first c.args.absent c.args.places.now E F (sym c.crosses.ensures ∙ c.if-crosses.true) (sym c.earlier.ensures ∙ c.if-earlier.true)
+    c.is_late-then-earlier.ensures ∙ torn-first c.args.absent c.args.places.now E F (sym c.crosses.ensures ∙ c.if-crosses.true) (sym c.earlier.ensures ∙ c.if-earlier.true)
     ∙ ap (torn_at c.args.absent c.args.places.now) (sym p)
 
 pub returns-else-earlier : goal.returns-else-earlier
 returns-else-earlier c =
     let n = length-links c.args.links.now in
     let L : List Link = links_in c.args.links.now in
-    let E : Link = c.link-at-e.result in
-    let F : Link = c.link-at-f.result in
-    let x : get_or L 0 no_link ≡ E = links-at c.args.links.now 0 no_link (omega arith) ∙ sym c.link-at-e.ensures in
-    let y : get_or L 1 no_link ≡ F = links-at c.args.links.now 1 no_link (omega arith) ∙ sym c.link-at-f.ensures in
+    let E : Link = c.link_at-e.result in
+    let F : Link = c.link_at-f.result in
+    let x : get_or L 0 no_link ≡ E = links-at c.args.links.now 0 no_link (omega arith) ∙ sym c.link_at-e.ensures in
+    let y : get_or L 1 no_link ≡ F = links-at c.args.links.now 1 no_link (omega arith) ∙ sym c.link_at-f.ensures in
     let p = pair_is L E F x y (omega arith) c.requires.few in
-    c.is-late-else-earlier.ensures ∙ torn-second c.args.absent c.args.places.now E F (sym c.crosses.ensures ∙ c.if-crosses.true) (sym c.earlier.ensures ∙ c.if-earlier.false)
+    c.is_late-else-earlier.ensures ∙ torn-second c.args.absent c.args.places.now E F (sym c.crosses.ensures ∙ c.if-crosses.true) (sym c.earlier.ensures ∙ c.if-earlier.false)
     ∙ ap (torn_at c.args.absent c.args.places.now) (sym p)
 
-pub returns-then-is-late : goal.returns-then-is-late
-returns-then-is-late c =
+pub returns-then-is_late : goal.returns-then-is_late
+returns-then-is_late c =
     let n = length-links c.args.links.now in
     let L : List Link = links_in c.args.links.now in
-    let E : Link = c.link-at-e.result in
-    let F : Link = c.link-at-f.result in
-    let x : get_or L 0 no_link ≡ E = links-at c.args.links.now 0 no_link (omega arith) ∙ sym c.link-at-e.ensures in
-    let y : get_or L 1 no_link ≡ F = links-at c.args.links.now 1 no_link (omega arith) ∙ sym c.link-at-f.ensures in
+    let E : Link = c.link_at-e.result in
+    let F : Link = c.link_at-f.result in
+    let x : get_or L 0 no_link ≡ E = links-at c.args.links.now 0 no_link (omega arith) ∙ sym c.link_at-e.ensures in
+    let y : get_or L 1 no_link ≡ F = links-at c.args.links.now 1 no_link (omega arith) ∙ sym c.link_at-f.ensures in
     let p = pair_is L E F x y (omega arith) c.requires.few in
-    sym (or_left _ (late_link c.args.absent c.args.places.now F) (sym c.is-late-else-crosses.ensures ∙ c.if-is-late.true))
+    sym (or_left _ (late_link c.args.absent c.args.places.now F) (sym c.is_late-else-crosses.ensures ∙ c.if-is_late.true))
     ∙ torn-open c.args.absent c.args.places.now E F (sym c.crosses.ensures ∙ c.if-crosses.false) (pair-ascends L E F p c.requires.ascends)
     ∙ ap (torn_at c.args.absent c.args.places.now) (sym p)
 
-pub returns-else-is-late : goal.returns-else-is-late
-returns-else-is-late c =
+pub returns-else-is_late : goal.returns-else-is_late
+returns-else-is_late c =
     let n = length-links c.args.links.now in
     let L : List Link = links_in c.args.links.now in
-    let E : Link = c.link-at-e.result in
-    let F : Link = c.link-at-f.result in
-    let x : get_or L 0 no_link ≡ E = links-at c.args.links.now 0 no_link (omega arith) ∙ sym c.link-at-e.ensures in
-    let y : get_or L 1 no_link ≡ F = links-at c.args.links.now 1 no_link (omega arith) ∙ sym c.link-at-f.ensures in
+    let E : Link = c.link_at-e.result in
+    let F : Link = c.link_at-f.result in
+    let x : get_or L 0 no_link ≡ E = links-at c.args.links.now 0 no_link (omega arith) ∙ sym c.link_at-e.ensures in
+    let y : get_or L 1 no_link ≡ F = links-at c.args.links.now 1 no_link (omega arith) ∙ sym c.link_at-f.ensures in
     let p = pair_is L E F x y (omega arith) c.requires.few in
-    c.is-late-else-is-late.ensures
-    ∙ ap (λ b. b || late_link c.args.absent c.args.places.now F) (sym (sym c.is-late-else-crosses.ensures ∙ c.if-is-late.false))
+    c.is_late-else-is_late.ensures
+    ∙ ap (λ b. b || late_link c.args.absent c.args.places.now F) (sym (sym c.is_late-else-crosses.ensures ∙ c.if-is_late.false))
     ∙ torn-open c.args.absent c.args.places.now E F (sym c.crosses.ensures ∙ c.if-crosses.false) (pair-ascends L E F p c.requires.ascends)
     ∙ ap (torn_at c.args.absent c.args.places.now) (sym p)

@@ -9,14 +9,14 @@ loop-i-init g c = sym (changed-none c.args.links.now c.args.batch.now)
 
 pub loop-i-preserved : goal.loop-i-preserved
 loop-i-preserved g c =
-    changes-told c.args.links.now c.loop-i.links c.change-link.new.links c.args.batch.now c.loop-i.i c.index-batch-i.result
-    c.loop-i-test.true c.index-batch-i.is c.loop-i.invariant c.change-link.ensures
+    changes-told c.args.links.now c.loop-i.links c.change_link.new.links c.args.batch.now c.loop-i.i c.index-batch-i.result
+    c.loop-i-test.true c.index-batch-i.is c.loop-i.invariant c.change_link.ensures
 
 pub returns : goal.returns
 returns g c = c.loop-i.invariant ∙ changed-all c.args.links.now c.args.batch.now c.loop-i.i c.loop-i-test.false
 
-pub change-link-requires : goal.change-link-requires
-change-link-requires g c =
+pub change_link-requires : goal.change_link-requires
+change_link-requires g c =
     let known = c.requires c.loop-i.i c.index-batch-i.result c.loop-i-test.true in
     let same : link_of c.index-batch-i.result ≡ link_of (get_or c.args.batch.now c.loop-i.i c.index-batch-i.result) =
     ap (λ (x : Change _). link_of x) c.index-batch-i.is in

@@ -8,8 +8,8 @@ use Rattle.places.proofs.places.number.Goals.{then-k-gt0+then-precedes, else-k-g
 pub loop-k-init : goal.loop-k-init
 loop-k-init g c = (sym (rank-none _ _), λ i h. absurd (omega arith))
 
-pub overflow-add-step : goal.overflow-add-step
-overflow-add-step g c =
+pub overflow_add-step : goal.overflow_add-step
+overflow_add-step g c =
     let lt = g.R.Ranking.before c.args.ranking.now in
     omega (arith, c.loop-k.invariant.0, rank-low lt (at c.args.order.now) (c.loop-k.k - 1), c.requires.size.1)
 

@@ -4,8 +4,8 @@ use Rattle.places.proofs.pool.note_states.Goals as goal
 
 pub loop-i-preserved : goal.loop-i-preserved
 loop-i-preserved g c =
-    states-more c.args.links.now c.loop-i.present c.loop-i.i c.state-of.result c.index-links-i.result c.loop-i-test.true (omega arith)
-    c.index-links-i.is c.state-of.ensures c.loop-i.invariant
+    states-more c.args.links.now c.loop-i.present c.loop-i.i c.state_of.result c.index-links-i.result c.loop-i-test.true (omega arith)
+    c.index-links-i.is c.state_of.ensures c.loop-i.invariant
 
 pub returns : goal.returns
 returns g c = states-all c.args.links.now c.loop-i.present c.loop-i.i c.loop-i-test.false (omega arith) c.loop-i.invariant

@@ -5,8 +5,8 @@ use Rattle.places.specs.Pool.{weights_of, told_by, sourced}
 use Rattle.places.proofs.Pooled.{ranks-standings, places-compared}
 use Rattle.places.proofs.pool.place_pool.Goals as goal
 
-pub give-places-requires : goal.give-places-requires
-give-places-requires g c =
+pub give_places-requires : goal.give_places-requires
+give_places-requires g c =
     let m = g.met.W.Ordered in
     let side = g.W.Ordered.side in
     let laws : Sided side = record { level = m.level; mirrored = m.mirrored; back = m.back; passes = m.passes } in
@@ -24,5 +24,5 @@ returns g c = λ i j li lj.
     let batch = c.args.batch.now in
     let sources = c.args.sources.now in
     let n : length (sourced links batch sources) ≡ length sources = length-map sources (told_by (weights_of links batch)) in
-    places-compared side laws (sourced links batch sources) c.give-places.new.places
-    (λ a b la lb. c.give-places.ensures a b (omega arith) (omega arith)) i j (omega arith) (omega arith)
+    places-compared side laws (sourced links batch sources) c.give_places.new.places
+    (λ a b la lb. c.give_places.ensures a b (omega arith) (omega arith)) i j (omega arith) (omega arith)

@@ -8,7 +8,7 @@ returns-then-q-links g c = sym (weights-link c.args.links.now c.args.batch.now c
 pub returns-then-j-batch : goal.returns-then-j-batch
 returns-then-j-batch g c =
     let e = weights-change c.args.links.now c.args.batch.now c.args.q c.index-batch-j.result (omega arith) c.if-j-batch.true in
-    let s = c.set-to.ensures in
+    let s = c.set_to.ensures in
     let i = c.index-batch-j.is in
     cc
 

@@ -5,4 +5,4 @@ use Rattle.places.proofs.pool.Pool.standing.Goals as goal
 pub returns : goal.returns
 returns g c =
     let s = c.args.self.now in
-    c.standing-at.ensures ∙ sym (sourced-at s.links.now s.batch.now s.sources.now c.args.i c.requires)
+    c.standing_at.ensures ∙ sym (sourced-at s.links.now s.batch.now s.sources.now c.args.i c.requires)
