@@ -22,8 +22,8 @@ loop-i-init c = (
   told_none c.args.absent c.args.places.now (links_in c.args.links.now),
 )
 
-pub end-of-j-requires : goal.end-of-j-requires
-end-of-j-requires c = omega arith
+pub end_of-j-requires : goal.end_of-j-requires
+end_of-j-requires c = omega arith
 
 pub block-tally-requires : goal.block-tally-requires
 block-tally-requires c =
@@ -34,12 +34,12 @@ block-tally-requires c =
     let P : List ℕ = c.loop-i.places in
     let out : List ℕ = c.loop-i.out in
     let i : ℕ = c.loop-i.i in
-    let j : ℕ = c.end-of-j.result in
+    let j : ℕ = c.end_of-j.result in
     let nl : length all ≡ length W / 2 = length_pairs move W in
     let el : length es ≡ length c.args.links.now / 3 = length-links c.args.links.now in
     let lt : i < length all = omega arith in
     let S : List (Move ℕ) = moves_in (take (j * 2 - i * 2) (drop (i * 2) W)) in
-    let e : j ≡ min (length all) (i + length es) = omega (arith, c.end-of-j.ensures) in
+    let e : j ≡ min (length all) (i + length es) = omega (arith, c.end_of-j.ensures) in
     let kn = c.requires.sound.known 0 (omega arith) in
     let some : 1 ≤ length es = omega (arith, c.requires.sound.many, kn.0, kn.1) in
     let M : Made c.args.places.now P (block_of N es) all (entries_in out) c.loop-i.tally.work i = c.loop-i.invariant.1 in
@@ -83,12 +83,12 @@ loop-i-smaller c =
     let P : List ℕ = c.loop-i.places in
     let out : List ℕ = c.loop-i.out in
     let i : ℕ = c.loop-i.i in
-    let j : ℕ = c.end-of-j.result in
+    let j : ℕ = c.end_of-j.result in
     let nl : length all ≡ length W / 2 = length_pairs move W in
     let el : length es ≡ length c.args.links.now / 3 = length-links c.args.links.now in
     let lt : i < length all = omega arith in
     let S : List (Move ℕ) = moves_in (take (j * 2 - i * 2) (drop (i * 2) W)) in
-    let e : j ≡ min (length all) (i + length es) = omega (arith, c.end-of-j.ensures) in
+    let e : j ≡ min (length all) (i + length es) = omega (arith, c.end_of-j.ensures) in
     let kn = c.requires.sound.known 0 (omega arith) in
     let some : 1 ≤ length es = omega (arith, c.requires.sound.many, kn.0, kn.1) in
     let M : Made c.args.places.now P (block_of N es) all (entries_in out) c.loop-i.tally.work i = c.loop-i.invariant.1 in
@@ -110,12 +110,12 @@ loop-i-preserved c =
     let P : List ℕ = c.loop-i.places in
     let out : List ℕ = c.loop-i.out in
     let i : ℕ = c.loop-i.i in
-    let j : ℕ = c.end-of-j.result in
+    let j : ℕ = c.end_of-j.result in
     let nl : length all ≡ length W / 2 = length_pairs move W in
     let el : length es ≡ length c.args.links.now / 3 = length-links c.args.links.now in
     let lt : i < length all = omega arith in
     let S : List (Move ℕ) = moves_in (take (j * 2 - i * 2) (drop (i * 2) W)) in
-    let e : j ≡ min (length all) (i + length es) = omega (arith, c.end-of-j.ensures) in
+    let e : j ≡ min (length all) (i + length es) = omega (arith, c.end_of-j.ensures) in
     let kn = c.requires.sound.known 0 (omega arith) in
     let some : 1 ≤ length es = omega (arith, c.requires.sound.many, kn.0, kn.1) in
     let M : Made c.args.places.now P (block_of N es) all (entries_in out) c.loop-i.tally.work i = c.loop-i.invariant.1 in
@@ -148,8 +148,8 @@ returns c =
       tear = told-all c.args.absent c.loop-i.tally _ c.args.places.now (links_in c.args.links.now) (moves_in W) c.loop-i.i (omega arith) c.loop-i.invariant.2;
     }
 
-pub slice-bounds-block-end-in-loop-i : goal.slice-bounds-block-end-in-loop-i
-slice-bounds-block-end-in-loop-i c =
+pub slice_bounds-block-end-in-loop-i : goal.slice_bounds-block-end-in-loop-i
+slice_bounds-block-end-in-loop-i c =
     let nl : length (moves_in c.args.moves.now) ≡ length c.args.moves.now / 2 = length_pairs move c.args.moves.now in
     let ko : length c.loop-i.out ≡ length (moves_in c.args.moves.now) * 2 = c.loop-i.auto.out ∙ c.requires.room.0 in
-    omega (arith, c.end-of-j.ensures)
+    omega (arith, c.end_of-j.ensures)

@@ -17,7 +17,7 @@ bounds-marks-change c =
     let cs : List (Move ℕ) = moves_in c.args.moves.now in
     let i = c.loop-i.i in
     let n = length_pairs move c.args.moves.now in
-    let a : (get_or cs i no_move).link ≡ c.move-at-change.result.link = ap (λ (d : Move ℕ). d.link) (pairs-at move c.args.moves.now i no_move (omega arith) ∙ sym c.move-at-change.ensures) in
+    let a : (get_or cs i no_move).link ≡ c.move_at-change.result.link = ap (λ (d : Move ℕ). d.link) (pairs-at move c.args.moves.now i no_move (omega arith) ∙ sym c.move_at-change.ensures) in
     let k = c.requires.known i (omega arith) in
     omega (arith, k.1, c.requires.some)
 
@@ -26,7 +26,7 @@ loop-i-preserved c =
     let cs : List (Move ℕ) = moves_in c.args.moves.now in
     let i = c.loop-i.i in
     let n = length_pairs move c.args.moves.now in
-    let a : (get_or cs i no_move).link ≡ c.move-at-change.result.link = ap (λ (d : Move ℕ). d.link) (pairs-at move c.args.moves.now i no_move (omega arith) ∙ sym c.move-at-change.ensures) in
+    let a : (get_or cs i no_move).link ≡ c.move_at-change.result.link = ap (λ (d : Move ℕ). d.link) (pairs-at move c.args.moves.now i no_move (omega arith) ∙ sym c.move_at-change.ensures) in
     let k = c.requires.known i (omega arith) in
     let u : (get_or cs i no_move).link < length c.loop-i.marks = omega (arith, k.1, c.requires.some) in
     subst (λ x. (k : ℕ) → flag (set c.loop-i.marks x 1) k ≡ named (take (i + 1) cs) k) a (name-more c.loop-i.marks cs i (omega arith) u c.loop-i.invariant)

@@ -11,8 +11,8 @@ use Rattle.blocks.specs.Block.{Known}
 use Rattle.blocks.proofs.Halving.{named-flags, block_of}
 use Rattle.blocks.proofs.block.prepare.Goals as goal
 
-pub name-links-requires : goal.name-links-requires
-name-links-requires c = record {
+pub name_links-requires : goal.name_links-requires
+name_links-requires c = record {
   known = λ k l. let h = c.requires.fits.known k l in (h.0, omega (arith, h.1, c.requires.size.3));
   some = omega (arith, c.requires.size.3);
   blank = c.requires.blank.0;
@@ -20,11 +20,11 @@ name-links-requires c = record {
 
 pub thin-r-requires : goal.thin-r-requires
 thin-r-requires c =
-    let e : c.copy-from-slice.new.self ≡ c.args.base.now = c.copy-from-slice.ensures.after in
-    let le : links_in c.copy-from-slice.new.self ≡ links_in c.args.base.now = ap links_in e in
+    let e : c.copy_from_slice.new.self ≡ c.args.base.now = c.copy_from_slice.ensures.after in
+    let le : links_in c.copy_from_slice.new.self ≡ links_in c.args.base.now = ap links_in e in
     let p : length (take (c.args.nodes + 1 - 0) c.args.parent.now) ≡ c.args.nodes + 1 - 0 = length-take-le _ c.args.parent.now (omega (arith, c.requires.size.0)) in
     let q : length (take (c.args.nodes + 1 - 0) c.args.name.now) ≡ c.args.nodes + 1 - 0 = length-take-le _ c.args.name.now (omega (arith, c.requires.size.2)) in
-    let m : length c.name-links.new.marks ≡ length c.args.marks.now = c.name-links.auto.marks in
+    let m : length c.name_links.new.marks ≡ length c.args.marks.now = c.name_links.auto.marks in
     record {
       size = (omega arith, omega (arith, c.requires.size.0, c.requires.size.1), omega arith);
       room = (omega (arith, ap length e, c.requires.room.1), omega (arith, ap length e, c.requires.room.2));
@@ -35,25 +35,25 @@ thin-r-requires c =
       blank = c.requires.blank.1;
     }
 
-pub unname-links-requires : goal.unname-links-requires
-unname-links-requires c =
-    let m : length c.name-links.new.marks ≡ length c.args.marks.now = c.name-links.auto.marks in
+pub unname_links-requires : goal.unname_links-requires
+unname_links-requires c =
+    let m : length c.name_links.new.marks ≡ length c.args.marks.now = c.name_links.auto.marks in
     record {
       known = λ k l. let h = c.requires.fits.known k l in (h.0, omega (arith, h.1, c.requires.size.3));
       some = omega (arith, c.requires.size.3);
-      marked = λ k t. sym (c.name-links.ensures k) ∙ t;
+      marked = λ k t. sym (c.name_links.ensures k) ∙ t;
     }
 
 pub returns : goal.returns
 returns c =
-    let e : c.copy-from-slice.new.self ≡ c.args.base.now = c.copy-from-slice.ensures.after in
-    let le : links_in c.copy-from-slice.new.self ≡ links_in c.args.base.now = ap links_in e in
+    let e : c.copy_from_slice.new.self ≡ c.args.base.now = c.copy_from_slice.ensures.after in
+    let le : links_in c.copy_from_slice.new.self ≡ links_in c.args.base.now = ap links_in e in
     let p : length (take (c.args.nodes + 1 - 0) c.args.parent.now) ≡ c.args.nodes + 1 - 0 = length-take-le _ c.args.parent.now (omega (arith, c.requires.size.0)) in
     let n : length (take (c.args.nodes + 1 - 0) c.args.parent.now) - 1 ≡ c.args.nodes = omega arith in
-    let f : flag c.name-links.new.marks ≡ named (moves_in c.args.moves.now) = named-flags c.name-links.new.marks (moves_in c.args.moves.now) c.name-links.ensures in
+    let f : flag c.name_links.new.marks ≡ named (moves_in c.args.moves.now) = named-flags c.name_links.new.marks (moves_in c.args.moves.now) c.name_links.ensures in
     record {
-      blank = (c.unname-links.ensures, c.thin-r.ensures.blank);
+      blank = (c.unname_links.ensures, c.thin-r.ensures.blank);
       within = omega (arith, c.thin-r.ensures.within, ap length e, c.requires.room.0);
-      thinned = c.thin-r.ensures.thinned ∙ ap (λ (nm : ℕ → Bool). thinned nm (place_before c.args.places.now) (block_of (length (take (c.args.nodes + 1 - 0) c.args.parent.now) - 1) (links_in c.copy-from-slice.new.self))) f
+      thinned = c.thin-r.ensures.thinned ∙ ap (λ (nm : ℕ → Bool). thinned nm (place_before c.args.places.now) (block_of (length (take (c.args.nodes + 1 - 0) c.args.parent.now) - 1) (links_in c.copy_from_slice.new.self))) f
           ∙ ap₂ (λ (x : ℕ) (l : List Link). thinned (named (moves_in c.args.moves.now)) (place_before c.args.places.now) (block_of x l)) n le;
     }
