@@ -9,8 +9,8 @@ loop-i-preserved c =
     let ws = c.args.words.now in
     let i = c.loop-i.i in
     let room : i < length ws / 2 = omega (arith, c.requires) in
-    filled_more c.loop-i.entries (entries_in ws) _ i c.entry-at.result (0, 0) (omega arith) (omega (arith, length_pairs exchange ws)) refl
-    (c.entry-at.ensures ∙ sym (pairs-at exchange ws i (0, 0) room)) c.loop-i.invariant
+    filled_more c.loop-i.entries (entries_in ws) _ i c.entry_at.result (0, 0) (omega arith) (omega (arith, length_pairs exchange ws)) refl
+    (c.entry_at.ensures ∙ sym (pairs-at exchange ws i (0, 0) room)) c.loop-i.invariant
 
 pub returns : goal.returns
 returns c =

@@ -13,8 +13,8 @@ loop-i-preserved g c =
     let ws = c.loop-i.moves in
     let i = c.loop-i.i in
     let n = moves-length batch ps c.requires.0 in
-    filled_more (moves_in ws) (place_moves batch ps) _ i _ no_move (omega (arith, length_pairs move ws, c.requires.1)) (omega arith) c.put-move.ensures
-    (moves-told batch ps i c.link-of.result c.index-batch-i.result no_move c.loop-i-test.true (omega (arith, c.requires.0)) c.index-batch-i.is c.link-of.ensures) c.loop-i.invariant
+    filled_more (moves_in ws) (place_moves batch ps) _ i _ no_move (omega (arith, length_pairs move ws, c.requires.1)) (omega arith) c.put_move.ensures
+    (moves-told batch ps i c.link_of.result c.index-batch-i.result no_move c.loop-i-test.true (omega (arith, c.requires.0)) c.index-batch-i.is c.link_of.ensures) c.loop-i.invariant
 
 pub returns : goal.returns
 returns g c =

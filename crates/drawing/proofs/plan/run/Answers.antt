@@ -16,14 +16,14 @@ use Rattle.places.proofs.Commits.{moves-length}
 use Rattle.drawing.proofs.Running.{all_laid, run_sound, told-parted, told-whole}
 use Rattle.drawing.proofs.plan.run.Goals as goal
 
-pub lay-out-requires : goal.lay-out-requires
-lay-out-requires g c =
+pub lay_out-requires : goal.lay_out-requires
+lay_out-requires g c =
     let order = c.start.new.parent in
     let names = c.start-2.new.parent in
-    let a : length order ≡ length c.args.ends.now = omega (arith, c.start.auto.parent, c.split-at-mut-order.ensures.front-len) in
-    let b : length names ≡ c.args.n + 1 = omega (arith, c.start-2.auto.parent, c.split-at-mut-names.ensures.front-len) in
+    let a : length order ≡ length c.args.ends.now = omega (arith, c.start.auto.parent, c.split_at_mut-order.ensures.front_len) in
+    let b : length names ≡ c.args.n + 1 = omega (arith, c.start-2.auto.parent, c.split_at_mut-names.ensures.front_len) in
     record {
-      room = omega (arith, c.split-at-mut-graph.ensures.front-len, a);
+      room = omega (arith, c.split_at_mut-graph.ensures.front_len, a);
       within = λ k l. omega (arith, own-names order c.start.ensures k l, a);
       few = c.requires.links.0;
       named = own-names names c.start-2.ensures;
@@ -38,64 +38,64 @@ batch-tally-requires g c =
     let places = c.args.places.now in
     let ps = c.args.targets.now in
     let order = c.start.new.parent in
-    let a : length order ≡ length ends = omega (arith, c.start.auto.parent, c.split-at-mut-order.ensures.front-len) in
-    let es : links_in c.lay-out.new.out ≡ graph_of ends = c.lay-out.ensures ∙ all_laid ends order a (own-names order c.start.ensures) in
-    let ms : moves_in c.list-moves.new.moves ≡ place_moves batch ps = c.list-moves.ensures in
-    let k : length (moves_in c.list-moves.new.moves) ≡ length batch = ap length ms ∙ moves-length batch ps c.requires.changes.1 in
+    let a : length order ≡ length ends = omega (arith, c.start.auto.parent, c.split_at_mut-order.ensures.front_len) in
+    let es : links_in c.lay_out.new.out ≡ graph_of ends = c.lay_out.ensures ∙ all_laid ends order a (own-names order c.start.ensures) in
+    let ms : moves_in c.list_moves.new.moves ≡ place_moves batch ps = c.list_moves.ensures in
+    let k : length (moves_in c.list_moves.new.moves) ≡ length batch = ap length ms ∙ moves-length batch ps c.requires.changes.1 in
     record {
       sound = run_sound n ends batch ps _ _ _ es ms c.requires.changes.2 c.requires.links.1 c.requires.known;
       size = (omega (arith, c.requires.nodes.1), omega (arith, c.requires.changes.2, c.requires.links.0), omega (arith, k, c.requires.changes.0));
       room = (
         omega (arith, k, c.requires.room.0),
-        omega (arith, c.lay-out.auto.out, c.split-at-mut-graph.ensures.front-len, c.requires.changes.2),
+        omega (arith, c.lay_out.auto.out, c.split_at_mut-graph.ensures.front_len, c.requires.changes.2),
         omega (
           arith,
           c.requires.room.1,
           c.requires.changes.2,
-          c.split-at-mut-order.ensures.back_len,
-          c.split-at-mut-names.ensures.back_len,
-          c.split-at-mut-graph.ensures.back_len,
-          c.split-at-mut-moves.ensures.back_len,
+          c.split_at_mut-order.ensures.back_len,
+          c.split_at_mut-names.ensures.back_len,
+          c.split_at_mut-graph.ensures.back_len,
+          c.split_at_mut-moves.ensures.back_len,
         ),
       );
     }
 
-pub overflow-cast-result : goal.overflow-cast-result
-overflow-cast-result g c =
+pub overflow_cast-result : goal.overflow_cast-result
+overflow_cast-result g c =
     let n = c.args.n in
     let ends = c.args.ends.now in
     let batch = c.args.batch.now in
     let places = c.args.places.now in
     let ps = c.args.targets.now in
     let order = c.start.new.parent in
-    let a : length order ≡ length ends = omega (arith, c.start.auto.parent, c.split-at-mut-order.ensures.front-len) in
-    let es : links_in c.lay-out.new.out ≡ graph_of ends = c.lay-out.ensures ∙ all_laid ends order a (own-names order c.start.ensures) in
-    let ms : moves_in c.list-moves.new.moves ≡ place_moves batch ps = c.list-moves.ensures in
-    let k : length (moves_in c.list-moves.new.moves) ≡ length batch = ap length ms ∙ moves-length batch ps c.requires.changes.1 in
+    let a : length order ≡ length ends = omega (arith, c.start.auto.parent, c.split_at_mut-order.ensures.front_len) in
+    let es : links_in c.lay_out.new.out ≡ graph_of ends = c.lay_out.ensures ∙ all_laid ends order a (own-names order c.start.ensures) in
+    let ms : moves_in c.list_moves.new.moves ≡ place_moves batch ps = c.list_moves.ensures in
+    let k : length (moves_in c.list_moves.new.moves) ≡ length batch = ap length ms ∙ moves-length batch ps c.requires.changes.1 in
     let T : ℕ = first_tear c.args.absent places (graph_of ends) (place_moves batch ps) in
     let t = c.batch-tally.ensures.tear (subst (λ (x : List Link). torn_at c.args.absent places x ≡ false) (sym es) c.requires.whole) in
-    let e : first_tear c.args.absent places (links_in c.lay-out.new.out) (moves_in c.list-moves.new.moves) ≡ T =
+    let e : first_tear c.args.absent places (links_in c.lay_out.new.out) (moves_in c.list_moves.new.moves) ≡ T =
     ap₂ (λ (x : List Link) (y : List (Move ℕ)). first_tear c.args.absent places x y) es ms in
     let w : c.batch-tally.result.whole ≡ T = t.0 ∙ e in
     let z : c.batch-tally.result.torn ≡ ltb T (length batch) = t.1 ∙ ap₂ (λ (x y : ℕ). ltb x y) e k in
     let l : T < length batch = ltb-true T (length batch) (sym z ∙ c.if-tally.true) in
     omega (arith, w, l, c.requires.changes.0)
 
-pub overflow-add-result : goal.overflow-add-result
-overflow-add-result g c =
+pub overflow_add-result : goal.overflow_add-result
+overflow_add-result g c =
     let n = c.args.n in
     let ends = c.args.ends.now in
     let batch = c.args.batch.now in
     let places = c.args.places.now in
     let ps = c.args.targets.now in
     let order = c.start.new.parent in
-    let a : length order ≡ length ends = omega (arith, c.start.auto.parent, c.split-at-mut-order.ensures.front-len) in
-    let es : links_in c.lay-out.new.out ≡ graph_of ends = c.lay-out.ensures ∙ all_laid ends order a (own-names order c.start.ensures) in
-    let ms : moves_in c.list-moves.new.moves ≡ place_moves batch ps = c.list-moves.ensures in
-    let k : length (moves_in c.list-moves.new.moves) ≡ length batch = ap length ms ∙ moves-length batch ps c.requires.changes.1 in
+    let a : length order ≡ length ends = omega (arith, c.start.auto.parent, c.split_at_mut-order.ensures.front_len) in
+    let es : links_in c.lay_out.new.out ≡ graph_of ends = c.lay_out.ensures ∙ all_laid ends order a (own-names order c.start.ensures) in
+    let ms : moves_in c.list_moves.new.moves ≡ place_moves batch ps = c.list_moves.ensures in
+    let k : length (moves_in c.list_moves.new.moves) ≡ length batch = ap length ms ∙ moves-length batch ps c.requires.changes.1 in
     let T : ℕ = first_tear c.args.absent places (graph_of ends) (place_moves batch ps) in
     let t = c.batch-tally.ensures.tear (subst (λ (x : List Link). torn_at c.args.absent places x ≡ false) (sym es) c.requires.whole) in
-    let e : first_tear c.args.absent places (links_in c.lay-out.new.out) (moves_in c.list-moves.new.moves) ≡ T =
+    let e : first_tear c.args.absent places (links_in c.lay_out.new.out) (moves_in c.list_moves.new.moves) ≡ T =
     ap₂ (λ (x : List Link) (y : List (Move ℕ)). first_tear c.args.absent places x y) es ms in
     let w : c.batch-tally.result.whole ≡ T = t.0 ∙ e in
     let z : c.batch-tally.result.torn ≡ ltb T (length batch) = t.1 ∙ ap₂ (λ (x y : ℕ). ltb x y) e k in
@@ -110,13 +110,13 @@ returns-then-tally g c =
     let places = c.args.places.now in
     let ps = c.args.targets.now in
     let order = c.start.new.parent in
-    let a : length order ≡ length ends = omega (arith, c.start.auto.parent, c.split-at-mut-order.ensures.front-len) in
-    let es : links_in c.lay-out.new.out ≡ graph_of ends = c.lay-out.ensures ∙ all_laid ends order a (own-names order c.start.ensures) in
-    let ms : moves_in c.list-moves.new.moves ≡ place_moves batch ps = c.list-moves.ensures in
-    let k : length (moves_in c.list-moves.new.moves) ≡ length batch = ap length ms ∙ moves-length batch ps c.requires.changes.1 in
+    let a : length order ≡ length ends = omega (arith, c.start.auto.parent, c.split_at_mut-order.ensures.front_len) in
+    let es : links_in c.lay_out.new.out ≡ graph_of ends = c.lay_out.ensures ∙ all_laid ends order a (own-names order c.start.ensures) in
+    let ms : moves_in c.list_moves.new.moves ≡ place_moves batch ps = c.list_moves.ensures in
+    let k : length (moves_in c.list_moves.new.moves) ≡ length batch = ap length ms ∙ moves-length batch ps c.requires.changes.1 in
     let T : ℕ = first_tear c.args.absent places (graph_of ends) (place_moves batch ps) in
     let t = c.batch-tally.ensures.tear (subst (λ (x : List Link). torn_at c.args.absent places x ≡ false) (sym es) c.requires.whole) in
-    let e : first_tear c.args.absent places (links_in c.lay-out.new.out) (moves_in c.list-moves.new.moves) ≡ T =
+    let e : first_tear c.args.absent places (links_in c.lay_out.new.out) (moves_in c.list_moves.new.moves) ≡ T =
     ap₂ (λ (x : List Link) (y : List (Move ℕ)). first_tear c.args.absent places x y) es ms in
     let w : c.batch-tally.result.whole ≡ T = t.0 ∙ e in
     let z : c.batch-tally.result.torn ≡ ltb T (length batch) = t.1 ∙ ap₂ (λ (x y : ℕ). ltb x y) e k in
@@ -133,13 +133,13 @@ returns g c =
     let places = c.args.places.now in
     let ps = c.args.targets.now in
     let order = c.start.new.parent in
-    let a : length order ≡ length ends = omega (arith, c.start.auto.parent, c.split-at-mut-order.ensures.front-len) in
-    let es : links_in c.lay-out.new.out ≡ graph_of ends = c.lay-out.ensures ∙ all_laid ends order a (own-names order c.start.ensures) in
-    let ms : moves_in c.list-moves.new.moves ≡ place_moves batch ps = c.list-moves.ensures in
-    let k : length (moves_in c.list-moves.new.moves) ≡ length batch = ap length ms ∙ moves-length batch ps c.requires.changes.1 in
+    let a : length order ≡ length ends = omega (arith, c.start.auto.parent, c.split_at_mut-order.ensures.front_len) in
+    let es : links_in c.lay_out.new.out ≡ graph_of ends = c.lay_out.ensures ∙ all_laid ends order a (own-names order c.start.ensures) in
+    let ms : moves_in c.list_moves.new.moves ≡ place_moves batch ps = c.list_moves.ensures in
+    let k : length (moves_in c.list_moves.new.moves) ≡ length batch = ap length ms ∙ moves-length batch ps c.requires.changes.1 in
     let T : ℕ = first_tear c.args.absent places (graph_of ends) (place_moves batch ps) in
     let t = c.batch-tally.ensures.tear (subst (λ (x : List Link). torn_at c.args.absent places x ≡ false) (sym es) c.requires.whole) in
-    let e : first_tear c.args.absent places (links_in c.lay-out.new.out) (moves_in c.list-moves.new.moves) ≡ T =
+    let e : first_tear c.args.absent places (links_in c.lay_out.new.out) (moves_in c.list_moves.new.moves) ≡ T =
     ap₂ (λ (x : List Link) (y : List (Move ℕ)). first_tear c.args.absent places x y) es ms in
     let w : c.batch-tally.result.whole ≡ T = t.0 ∙ e in
     let z : c.batch-tally.result.torn ≡ ltb T (length batch) = t.1 ∙ ap₂ (λ (x y : ℕ). ltb x y) e k in

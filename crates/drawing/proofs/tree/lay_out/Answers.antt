@@ -9,7 +9,7 @@ loop-j-preserved c =
     let i = get_or order c.loop-j.j 0 in
     let e = c.requires.ends i (c.requires.within c.loop-j.j c.loop-j-test.true) in
     wrote-more (link_at c.args.ends.now) order c.loop-j.out _ c.loop-j.j _ c.loop-j-test.true (omega (arith, c.requires.room))
-    c.put-link.ensures (same-link _ _ _ _ _ _ (add-one i) (c.requires.named _ e.0) (c.requires.named _ e.1)) c.loop-j.invariant
+    c.put_link.ensures (same-link _ _ _ _ _ _ (add-one i) (c.requires.named _ e.0) (c.requires.named _ e.1)) c.loop-j.invariant
 
 pub returns : goal.returns
 returns c = wrote-all (link_at c.args.ends.now) c.args.order.now c.loop-j.out c.loop-j.j c.loop-j-test.false (omega (arith, c.requires.room)) c.loop-j.invariant

@@ -8,20 +8,20 @@ use Rattle.drawing.proofs.Fits.{Fit, fits, ends-between}
 use Rattle.drawing.proofs.LeastTree.{forest-apart, counted, forest-length, front-small, table_filled}
 use Rattle.drawing.proofs.tree.least_tree.Goals as goal
 
-pub least-forest-k-requires : goal.least-forest-k-requires
-least-forest-k-requires g c =
+pub least_forest-k-requires : goal.least_forest-k-requires
+least_forest-k-requires g c =
     let n = c.args.n in
     let ends = c.args.ends.now in
     let f = fits n ends _ _ _ c.requires in
-    let a = c.split-at-mut-order.ensures in
-    let b = c.split-at-mut-names.ensures in
-    let d = c.split-at-mut-parent.ensures in
-    let k : length c.split-at-mut-names.result.0.now ≡ n + 1 = b.front-len in
+    let a = c.split_at_mut-order.ensures in
+    let b = c.split_at_mut-names.ensures in
+    let d = c.split_at_mut-parent.ensures in
+    let k : length c.split_at_mut-names.result.0.now ≡ n + 1 = b.front_len in
     record {
-      room = (a.front-len, omega (arith, f.work, f.some, a.back_len, b.back_len, d.back_len));
+      room = (a.front_len, omega (arith, f.work, f.some, a.back_len, b.back_len, d.back_len));
       same = (sym f.same, f.links);
       ends = λ i l. let e = ends-between n 1 ends f.ends i l in (omega (arith, k, e.0), omega (arith, k, e.1));
-      nodes = (omega (arith, k, d.front-len), omega (arith, k, f.nodes));
+      nodes = (omega (arith, k, d.front_len), omega (arith, k, f.nodes));
     }
 
 pub returns-then-k-n : goal.returns-then-k-n
@@ -33,19 +33,19 @@ returns-then-k-n g c =
     let side = g.W.Ordered.side in
     let laws : Sided side = record { level = o.level; mirrored = o.mirrored; back = o.back; passes = o.passes } in
     let f = fits n ends _ _ _ c.requires in
-    let k = c.least-forest-k.result in
-    let ws = c.least-forest-k.new.out in
-    let e = c.least-forest-k.ensures.forest in
+    let k = c.least_forest-k.result in
+    let ws = c.least_forest-k.new.out in
+    let e = c.least_forest-k.ensures.forest in
     let room : k ≤ length ws / 3 =
-    omega (arith, f.work, f.some, c.least-forest-k.ensures.within, c.least-forest-k.auto.out, c.split-at-mut-order.ensures.back_len, c.split-at-mut-names.ensures.back_len, c.split-at-mut-parent.ensures.back_len) in
+    omega (arith, f.work, f.some, c.least_forest-k.ensures.within, c.least_forest-k.auto.out, c.split_at_mut-order.ensures.back_len, c.split_at_mut-names.ensures.back_len, c.split_at_mut-parent.ensures.back_len) in
     let m = forest-length side laws n ends links ws k room e in
     record {
       joined = sym ((counted side laws n ends links f.some (faultless-within n 1 ends f.ends)).1 (λ q. c.if-k-n.true (omega (arith, q, m))));
       tree = search rules;
     }
 
-pub list-numbers-requires : goal.list-numbers-requires
-list-numbers-requires g c =
+pub list_numbers-requires : goal.list_numbers-requires
+list_numbers-requires g c =
     let n = c.args.n in
     let ends = c.args.ends.now in
     let links = c.args.links.now in
@@ -53,11 +53,11 @@ list-numbers-requires g c =
     let side = g.W.Ordered.side in
     let laws : Sided side = record { level = o.level; mirrored = o.mirrored; back = o.back; passes = o.passes } in
     let f = fits n ends _ _ _ c.requires in
-    let k = c.least-forest-k.result in
-    let ws = c.least-forest-k.new.out in
-    let e = c.least-forest-k.ensures.forest in
+    let k = c.least_forest-k.result in
+    let ws = c.least_forest-k.new.out in
+    let e = c.least_forest-k.ensures.forest in
     let room : k ≤ length ws / 3 =
-    omega (arith, f.work, f.some, c.least-forest-k.ensures.within, c.least-forest-k.auto.out, c.split-at-mut-order.ensures.back_len, c.split-at-mut-names.ensures.back_len, c.split-at-mut-parent.ensures.back_len) in
+    omega (arith, f.work, f.some, c.least_forest-k.ensures.within, c.least_forest-k.auto.out, c.split_at_mut-order.ensures.back_len, c.split_at_mut-names.ensures.back_len, c.split_at_mut-parent.ensures.back_len) in
     let m = forest-length side laws n ends links ws k room e in
     let t : length (take (k - 0) c.args.tree.now) ≡ k = lent_length k c.args.tree.now (omega (arith, f.tree, c.if-k-n.false)) in
     record {
@@ -75,13 +75,13 @@ returns g c =
     let side = g.W.Ordered.side in
     let laws : Sided side = record { level = o.level; mirrored = o.mirrored; back = o.back; passes = o.passes } in
     let f = fits n ends _ _ _ c.requires in
-    let k = c.least-forest-k.result in
-    let ws = c.least-forest-k.new.out in
-    let e = c.least-forest-k.ensures.forest in
+    let k = c.least_forest-k.result in
+    let ws = c.least_forest-k.new.out in
+    let e = c.least_forest-k.ensures.forest in
     let room : k ≤ length ws / 3 =
-    omega (arith, f.work, f.some, c.least-forest-k.ensures.within, c.least-forest-k.auto.out, c.split-at-mut-order.ensures.back_len, c.split-at-mut-names.ensures.back_len, c.split-at-mut-parent.ensures.back_len) in
+    omega (arith, f.work, f.some, c.least_forest-k.ensures.within, c.least_forest-k.auto.out, c.split_at_mut-order.ensures.back_len, c.split_at_mut-names.ensures.back_len, c.split_at_mut-parent.ensures.back_len) in
     let m = forest-length side laws n ends links ws k room e in
     record {
       joined = sym ((counted side laws n ends links f.some (faultless-within n 1 ends f.ends)).0 (omega (arith, m, c.if-k-n.false)));
-      tree = table_filled side laws n ends links ws k room e c.args.tree.now c.list-numbers.new.out (omega (arith, f.tree, c.if-k-n.false)) c.list-numbers.ensures;
+      tree = table_filled side laws n ends links ws k room e c.args.tree.now c.list_numbers.new.out (omega (arith, f.tree, c.if-k-n.false)) c.list_numbers.ensures;
     }

@@ -11,7 +11,7 @@ loop-j-preserved c =
     let j = c.loop-j.j in
     let out = c.loop-j.out in
     let room : j < length ws / 3 = omega (arith, c.requires.room) in
-    let q = links-at ws j no_link room ∙ sym c.link-at.ensures in
+    let q = links-at ws j no_link room ∙ sym c.link_at.ensures in
     let P = λ (e : Link). take (j + 1) (set out j e.number) ≡ map (λ (f : Link). f.number) (take (j + 1) (links_in ws)) in
     subst P q (listed_more (links_in ws) out j no_link (omega (arith, length-links ws)) (omega arith) c.loop-j.invariant)
 

@@ -21,8 +21,8 @@ sort-requires g c =
       ranks = ranks-suc (link_before side links) (ranks-strict (link_before side links) (strict-links side laws links));
     }
 
-pub lay-out-requires : goal.lay-out-requires
-lay-out-requires g c = record {
+pub lay_out-requires : goal.lay_out-requires
+lay_out-requires g c = record {
   room = omega (arith, c.requires.room);
   within = indexes-shuffled c.args.order.now c.sort.new.order _ c.sort.ensures.shuffled c.requires.within;
   few = c.requires.same.1;
@@ -36,6 +36,6 @@ returns g c =
     let side = g.W.Ordered.side in
     let laws : Sided side = record { level = m.level; mirrored = m.mirrored; back = m.back; passes = m.passes } in
     let links = c.args.links.now in
-    c.lay-out.ensures
+    c.lay_out.ensures
     ∙ positions-ordered (link_before side links) (strict-links side laws links) (link_at c.args.ends.now) c.args.order.now c.sort.new.order
     c.requires.apart c.sort.ensures.shuffled c.sort.ensures.sorted
