@@ -8,23 +8,23 @@ use Rattle.planner.proofs.book.draw.commit.Goals as goal
 
 pub returns : goal.returns
 returns g c = record {
-  start = tree-filled g.W.Ordered.side c.args.n c.args.ends.now c.args.links.now c.args.links.now c.least-tree.result c.args.start.now c.least-tree.new.tree
-      refl c.least-tree.ensures.joined c.requires.whole.0 c.least-tree.ensures.tree;
-  entries = front-written c.copy-entries.new.entries (entries_in c.args.out.now) c.args.entries.now (length c.args.batch.now) c.copy-entries.ensures
-      (ap length c.copy-entries.ensures ∙ length_pairs exchange c.args.out.now ∙ omega (arith, c.requires.out.0));
-  links = c.change-links.ensures;
-  tree = tree-filled g.W.Ordered.side c.args.n c.args.ends.now _ c.change-links.new.links c.least-tree-2.result c.args.tree.now c.least-tree-2.new.tree
-      c.change-links.ensures c.least-tree-2.ensures.joined c.requires.whole.1 c.least-tree-2.ensures.tree;
+  start = tree-filled g.W.Ordered.side c.args.n c.args.ends.now c.args.links.now c.args.links.now c.least_tree.result c.args.start.now c.least_tree.new.tree
+      refl c.least_tree.ensures.joined c.requires.whole.0 c.least_tree.ensures.tree;
+  entries = front-written c.copy_entries.new.entries (entries_in c.args.out.now) c.args.entries.now (length c.args.batch.now) c.copy_entries.ensures
+      (ap length c.copy_entries.ensures ∙ length_pairs exchange c.args.out.now ∙ omega (arith, c.requires.out.0));
+  links = c.change_links.ensures;
+  tree = tree-filled g.W.Ordered.side c.args.n c.args.ends.now _ c.change_links.new.links c.least_tree-2.result c.args.tree.now c.least_tree-2.new.tree
+      c.change_links.ensures c.least_tree-2.ensures.joined c.requires.whole.1 c.least_tree-2.ensures.tree;
 }
 
-pub least-tree-requires : goal.least-tree-requires
-least-tree-requires g c =
+pub least_tree-requires : goal.least_tree-requires
+least_tree-requires g c =
     let fit = fits c.args.n c.args.ends.now _ _ _ c.requires.fits.0 in
     longer c.args.n c.args.ends.now _ _ _ _ _ c.requires.fits.0 c.requires.fits.1 fit.work
 
-pub change-links-requires : goal.change-links-requires
-change-links-requires g c = c.requires.known
+pub change_links-requires : goal.change_links-requires
+change_links-requires g c = c.requires.known
 
-pub least-tree-requires-2 : goal.least-tree-requires-2
-least-tree-requires-2 g c =
-    ap₂ (λ (l w : ℕ). tables_fault c.args.n c.args.ends.now l (length c.args.tree.now) w) c.change-links.auto.links c.least-tree.auto.work ∙ c.requires.fits.0
+pub least_tree-requires-2 : goal.least_tree-requires-2
+least_tree-requires-2 g c =
+    ap₂ (λ (l w : ℕ). tables_fault c.args.n c.args.ends.now l (length c.args.tree.now) w) c.change_links.auto.links c.least_tree.auto.work ∙ c.requires.fits.0
