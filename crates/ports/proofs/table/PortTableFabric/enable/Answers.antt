@@ -1,4 +1,4 @@
-use Rattle.std.proofs.Common.{◌≡◌, ◌<◌, true, false, List, length, get_or, sym, refl, ap, ◌∙◌, arith}
+use Rattle.std.proofs.Common.{◌≡◌, true, false, get_or, sym, refl, ap, ◌∙◌, arith}
 use Rattle.fabrics.proofs.Calls.{enable-carries, enables}
 use Rattle.port_layout.specs.Ports.{flags, enabled}
 use Rattle.port_layout.proofs.Facts.{table_of}
