@@ -8,8 +8,8 @@ use faults::FabricFault;
 
 /// Disables a link that carries and enables one that does not, and tells whether it carries now.
 pub fn toggle<F: Fabric>(fabric: &mut F, link: u32) -> Result<bool, FabricFault>
-    ensures answer { Toggles (carrying fabric.old) link result (carrying fabric.new) }
-    ensures same { shape fabric.new ≡ shape fabric.old }
+    ensures answer { Toggles (F.Fabric.carrying fabric.old) link result (F.Fabric.carrying fabric.new) }
+    ensures same { F.Fabric.shape fabric.new ≡ F.Fabric.shape fabric.old }
 {
     if fabric.look(link)? {
         fabric.disable(link)?;

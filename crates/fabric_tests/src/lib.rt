@@ -1,4 +1,6 @@
 //! A fabric of a buyer's own make, code that is generic over all makes, and examples of each make at work.
+#![tactic(auto)]
+
 mod bits;
 mod generic;
 mod lent;

@@ -1,8 +1,7 @@
 -- Memory whose first bytes are set to 0, and the link map that it makes.
-use Rattle.std.proofs.Common.{◌≡◌, ℕ, ◌-◌, ◌<◌, ◌≤◌, Bool, true, false, cond, eqb, ltb, List, [], ◌++◌, length, get_or, drop, replicate, is_some, Some, None, Option, sym, refl, ap, ◌∙◌, subst, arith}
+use Rattle.std.proofs.Common.{◌≡◌, ℕ, ◌-◌, ◌<◌, ◌≤◌, Bool, true, false, cond, eqb, ltb, List, ◌++◌, length, get_or, drop, replicate, is_some, Some, None, Option, sym, refl, ap, ◌∙◌, subst, arith}
 use Rattle.std.proofs.lemmas.List.{get_or_append_left, get_or-replicate, length-replicate, length-append, length-drop, ext_get_or}
 use Rattle.std.proofs.lemmas.Bool.{ltb-false}
-use Rattle.faults.specs.declared.BlankFault.{BlankFault}
 use Rattle.fabrics.specs.Blank.{blanked, Begins}
 use Rattle.fabrics.specs.Map.{flags, map_fault}
 use Rattle.fabrics.proofs.Flags.{length-flags, flag_at}

@@ -1,8 +1,8 @@
 -- The answers of a fabric's calls, from the place of the link and the flag there: for any make.
-use Rattle.std.proofs.Common.{◌≡◌, ℕ, ◌-◌, ◌<◌, Bool, true, false, cond, List, length, get_or, set, Some, None, Ok, Err, sym, refl, ap, ◌∙◌, subst}
+use Rattle.std.proofs.Common.{◌≡◌, ℕ, Bool, true, false, cond, List, length, get_or, set, Some, None, Ok, Err, sym, refl, ap, ◌∙◌}
 use Rattle.faults.specs.declared.FabricFault.{FabricFault}
 use Rattle.faults.specs.declared.FabricFault.TheVariants.{LinkOutside, CarriesAlready, CarriesNot}
-use Rattle.fabrics.specs.Meaning.{within, among, carries, look_fault, enable_fault, disable_fault, Looks, Enables, Disables, Places}
+use Rattle.fabrics.specs.Meaning.{within, among, carries, Looks, Enables, Disables, Places}
 
 module _ (c : List Bool) (m k : ℕ) (size : length c ≡ m) where
   has-link : (b : Bool) → within m k ≡ b → among c k ≡ b

@@ -1,4 +1,6 @@
 //! Fabrics: what one has to show, and its plainest make, the link map.
+#![tactic(auto)]
+
 mod fabric;
 mod map;
 

@@ -1,4 +1,6 @@
 //! Every ground on which a call refuses, and the one table of layers, codes and places.
+#![tactic(auto)]
+
 ghost use Rattle.std.specs.Prelude.{◌≡◌};
 ghost use Rattle.faults.specs.Table.{at, of_weight, of_open, of_draw, of_fabric, of_blank, of_player, of_text};
 

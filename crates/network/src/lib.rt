@@ -1,4 +1,6 @@
 //! A network as a buyer lends it: nodes, the ends of links, their weights and states, and changes of them.
+#![tactic(auto)]
+
 ghost use Rattle.std.specs.Prelude.{◌≡◌, ◌≤◌, length};
 ghost use Rattle.network.specs.Ends.{no_node, end_fault, first_end_fault};
 

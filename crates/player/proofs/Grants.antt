@@ -1,5 +1,5 @@
 -- When a fabric enables a link, and when it disables one.
-use Rattle.std.proofs.Common.{◌≡◌, ℕ, ◌≤◌, Bool, true, false, cond, eqb, leb, List, length, Some, None, ap, ◌∙◌}
+use Rattle.std.proofs.Common.{◌≡◌, ℕ, ◌≤◌, Bool, true, false, cond, leb, List, length, Some, None, ap, ◌∙◌}
 use Rattle.std.proofs.lemmas.Bool.{ne_eqb, le-leb}
 use Rattle.faults.specs.declared.FabricFault.TheVariants.{LinkOutside, CarriesAlready, CarriesNot}
 use Rattle.fabrics.specs.Meaning.{among, carries, enable_fault, disable_fault}

@@ -1,5 +1,5 @@
 -- A start list, judged by itself.
-use Rattle.std.specs.Prelude.{◌≡◌, ℕ, ◌<◌, ◌≤◌, Bool, true, false, cond, List, [], ◌∷◌, ◌++◌, length, Some, None, Option, ◌==◌, nat_lt, slice_index}
+use Rattle.std.specs.Prelude.{ℕ, ◌<◌, ◌≤◌, Bool, true, false, cond, List, [], ◌∷◌, ◌++◌, length, Some, None, Option, ◌==◌, nat_lt, slice_index}
 use Rattle.faults.specs.declared.FabricFault.TheVariants.{LinkOutside, CarriesAlready}
 use Rattle.faults.specs.declared.PlayerFault.{PlayerFault}
 use Rattle.faults.specs.declared.PlayerFault.TheVariants.{Refused}

@@ -1,4 +1,5 @@
 //! The player: it moves a fabric along a plan, one change at a time, and never has a link come before the other has left.
+#![tactic(auto)]
 
 mod laying;
 mod moves;

@@ -1,5 +1,5 @@
 -- Sound chains stay sound as a record is pushed or unlinked.
-use Rattle.std.proofs.Common.{◌≡◌, ℕ, ◌+◌, ◌-◌, ◌<◌, ◌≤◌, true, false, ◌⊎◌, List, ◌∷◌, sym, refl, ap, ◌∙◌, subst, inl, inr, arith}
+use Rattle.std.proofs.Common.{◌≡◌, ℕ, ◌+◌, ◌<◌, ◌≤◌, true, false, ◌⊎◌, List, ◌∷◌, sym, refl, ap, ◌∙◌, subst, inl, inr, arith}
 use Rattle.std.proofs.lemmas.Bool.{cases_Bool, cases_eq, both_ways}
 use Rattle.port_layout.specs.Chains.{cell, chain, has, without, holder, Spells, Once, Kept, Sound}
 use Rattle.port_layout.proofs.Walks.{has-head, has_other, has-not-head, has-apart, has-without, has-without-other, has-without-self, once-without, few, chain-spelled, spelled-above, spells-moved, holder-place, spells-without}

@@ -2,7 +2,7 @@
 use Rattle.std.proofs.Common.{◌≡◌, ℕ, ◌<◌, Bool, true, false, List, length, get_or, set, sym, ap, ◌∙◌}
 use Rattle.network.specs.declared.types.Ends.{Ends}
 use Rattle.port_layout.specs.Laws.{EnablePutsInFront, DisableTakesOut, OrderDoesNotMatter}
-use Rattle.port_layout.specs.Ports.{Table, flags, linked}
+use Rattle.port_layout.specs.Ports.{flags, linked}
 use Rattle.port_layout.proofs.Tables.{flag_at}
 use Rattle.port_layout.proofs.Turns.{enabled-chains, disabled-chains, enabled-flags, disabled-flags}
 

@@ -1,5 +1,5 @@
 -- What enabling and disabling a link leave of a port table.
-use Rattle.std.proofs.Common.{◌≡◌, ℕ, ◌+◌, ◌-◌, ◌*◌, ◌<◌, ◌≤◌, Bool, true, false, List, length, set, sym, refl, ap, ◌∙◌, subst, arith}
+use Rattle.std.proofs.Common.{◌≡◌, ℕ, ◌+◌, ◌*◌, ◌<◌, ◌≤◌, Bool, true, false, List, length, set, sym, refl, ap, ◌∙◌, subst, arith}
 use Rattle.port_layout.specs.Chains.{chain, has, holder}
 use Rattle.port_layout.specs.Words.{word, pushed}
 use Rattle.port_layout.specs.Ports.{first_head, second_head, owner, chain_of, linked, flags, Table, enabled, taken, disabled, front, back}

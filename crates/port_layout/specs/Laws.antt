@@ -1,5 +1,5 @@
 -- Laws of the port table above its bytes: what a call leaves of the chains and of the carrying links.
-use Rattle.std.specs.Prelude.{◌≡◌, ℕ, ◌+◌, ◌*◌, ◌<◌, true, false, List, length, set}
+use Rattle.std.specs.Prelude.{◌≡◌, ℕ, ◌+◌, ◌*◌, ◌<◌, true, false, List, length}
 use Rattle.network.specs.declared.types.Ends.{Ends}
 use Rattle.port_layout.specs.Ports.{Table, chain_of, first_head, second_head, flags, linked, enabled, disabled, front, back}
 

@@ -1,5 +1,6 @@
 //! The layout of the port table and the theory of its chains: definitions that the contracts of crate `ports` cite, and
 //! what enabling and disabling leave of the chains. It holds no code beyond a function whose contract is the laws.
+#![tactic(auto)]
 
 ghost use Rattle.port_layout.specs.Laws.{EnablePutsInFront, DisableTakesOut, OrderDoesNotMatter};
 

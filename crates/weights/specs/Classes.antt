@@ -4,7 +4,7 @@ use Rattle.std.proofs.Common.{inl, inr, ⊎_elim, arith}
 use Rattle.std.proofs.lemmas.Bool.{cases_order, cases_lt}
 use Rattle.std.proofs.lemmas.Bool.Decides.{nat_tests}
 use Rattle.weights.specs.declared.order.Side.{Side}
-use Rattle.weights.specs.declared.order.Side.TheVariants.{Before, Level, After}
+use Rattle.weights.specs.declared.order.Side.TheVariants.{Before, After}
 use Rattle.weights.specs.Order.{compared}
 
 abbrev sides : ℕ → ℕ → ℕ → ℕ → Side

@@ -1,5 +1,5 @@
 -- The order of costs and of class weights.
-use Rattle.std.specs.Prelude.{ℕ, Bool, true, false, cond, ◌==◌, nat_lt}
+use Rattle.std.specs.Prelude.{ℕ, cond, ◌==◌, nat_lt}
 use Rattle.weights.specs.declared.class.Class.{Class}
 use Rattle.weights.specs.declared.standing.Standing.{Standing}
 use Rattle.weights.specs.declared.standing.Standing.TheVariants.{At, Absent}

@@ -1,4 +1,6 @@
 //! Weights of links: what a weight kind is, the two kinds, and how a link stands.
+#![tactic(auto)]
+
 mod class;
 mod cost;
 mod order;

@@ -1,6 +1,6 @@
-use Rattle.std.proofs.Common.{◌≡◌, suc, ◌+◌, ◌<◌, ◌≤◌, Bool, true, false, cond, [], length, get_or, take, sym, refl, ap, ◌∙◌, arith}
+use Rattle.std.proofs.Common.{◌≡◌, ◌+◌, ◌<◌, [], length, take, sym, refl, ap, ◌∙◌, arith}
 use Rattle.std.proofs.lemmas.List.{take_all}
-use Rattle.player.specs.Start.{mem, Parts}
+use Rattle.player.specs.Start.{Parts}
 use Rattle.player.specs.Lay.{only, agree}
 use Rattle.player.proofs.Places.{parts-start, parts-step, parts-after-miss}
 use Rattle.player.proofs.Only.{blank-lost, blank-kept, exact-kept, exact-lost, list-nonzero}
@@ -27,19 +27,19 @@ loop-i-preserved g c =
         | else-on w ↦ w.blank-is ∙ blank-kept k i c.in-Ok.on h is w.if-on.false c.loop-i.blank c.loop-i.invariant.0
       ],
       elim c.if-on-wanted.branch [
-        | then-on-wanted w ↦ w.exact-is ∙ exact-lost k i c.in-Ok.on h is xs c.listed-at-wanted.result c.listed-at-wanted.ensures w.if-on-wanted.true
-        | else-on-wanted w ↦ w.exact-is ∙ exact-kept k i c.in-Ok.on h is xs c.listed-at-wanted.result c.listed-at-wanted.ensures w.if-on-wanted.false c.loop-i.exact c.loop-i.invariant.1
+        | then-on-wanted w ↦ w.exact-is ∙ exact-lost k i c.in-Ok.on h is xs c.listed_at-wanted.result c.listed_at-wanted.ensures w.if-on-wanted.true
+        | else-on-wanted w ↦ w.exact-is ∙ exact-kept k i c.in-Ok.on h is xs c.listed_at-wanted.result c.listed_at-wanted.ensures w.if-on-wanted.false c.loop-i.exact c.loop-i.invariant.1
       ],
       elim c.if-wanted.branch [ then-wanted w ↦ omega (arith, w.at-is, c.loop-i.invariant.2) | else-wanted w ↦ omega (arith, w.at-is, c.loop-i.invariant.2) ],
       λ a.
           elim c.if-wanted.branch [
             | then-wanted w ↦
                 let q : Parts xs (c.loop-i.at + 1) (i + 1 + 1) =
-                parts-step xs c.loop-i.at (i + 1) (c.loop-i.invariant.3 a) (sym c.listed-at-wanted.ensures ∙ w.if-wanted.true) in
+                parts-step xs c.loop-i.at (i + 1) (c.loop-i.invariant.3 a) (sym c.listed_at-wanted.ensures ∙ w.if-wanted.true) in
                 rw w.at-is q
             | else-wanted w ↦
                 let q : Parts xs c.loop-i.at (i + 1 + 1) =
-                parts-after-miss xs c.loop-i.at (i + 1) (c.loop-i.invariant.3 a) (sym c.listed-at-wanted.ensures ∙ w.if-wanted.false) in
+                parts-after-miss xs c.loop-i.at (i + 1) (c.loop-i.invariant.3 a) (sym c.listed_at-wanted.ensures ∙ w.if-wanted.false) in
                 rw w.at-is q
           ],
     )

@@ -6,8 +6,8 @@ use Rattle.player.proofs.Walks.{fault-zero, fault-over, fault-twice, fault-next,
 use Rattle.player.proofs.start.list_fault.Goals as goal
 use Rattle.player.proofs.start.list_fault.Goals.{then-x-eq0-via-then-x-eq0, then-x-eq0-via-else-x-eq0+then-x-m}
 
-pub listed-at-requires : goal.listed-at-requires
-listed-at-requires c =
+pub listed_at-requires : goal.listed_at-requires
+listed_at-requires c =
     λ a.
     let q : Parts (take c.loop-i.i c.args.xs.now) c.loop-i.i (get_or c.args.xs.now c.loop-i.i 0) =
     parts-front c.args.xs.now c.loop-i.i (c.requires a) c.loop-i-test.true in
@@ -22,16 +22,16 @@ returns-then-x-eq0 c =
           sym (fault-over c.args.m c.args.xs.now c.loop-i.i c.loop-i-test.true w.if-x-eq0.false w.if-x-m.true) ∙ c.loop-i.invariant
     ]
 
-pub returns-then-listed-at : goal.returns-then-listed-at
-returns-then-listed-at c =
+pub returns-then-listed_at : goal.returns-then-listed_at
+returns-then-listed_at c =
     let e : mem (get_or c.args.xs.now c.loop-i.i 0) (take c.loop-i.i c.args.xs.now) ≡ true =
-    sym (rw sub-zero at c.if-listed-at.ensures) in
+    sym (rw sub-zero at c.if-listed_at.ensures) in
     sym (fault-twice c.args.m c.args.xs.now c.loop-i.i c.loop-i-test.true c.if-x-eq0.false c.if-x-m.false e) ∙ c.loop-i.invariant
 
 pub loop-i-preserved : goal.loop-i-preserved
 loop-i-preserved c =
     let e : mem (get_or c.args.xs.now c.loop-i.i 0) (take c.loop-i.i c.args.xs.now) ≡ false =
-    sym (rw sub-zero at c.if-listed-at.ensures) in
+    sym (rw sub-zero at c.if-listed_at.ensures) in
     fault-next c.args.m c.args.xs.now c.loop-i.i c.loop-i-test.true c.if-x-eq0.false c.if-x-m.false e ∙ c.loop-i.invariant
 
 pub returns : goal.returns

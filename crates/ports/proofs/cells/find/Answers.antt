@@ -11,7 +11,7 @@ pub returns-then-next-r : goal.returns-then-next-r
 returns-then-next-r c =
     let w = word c.args.bytes.now in
     let at = c.loop-step.at in
-    let u : c.args.m - c.loop-step.-step ≡ suc (c.args.m - (c.loop-step.-step + 1)) = omega arith in
+    let u : c.args.m - c.loop-step._step ≡ suc (c.args.m - (c.loop-step._step + 1)) = omega arith in
     let e : w at ≡ c.args.r = sym c.read-next.ensures.value ∙ c.if-next-r.true in
     record {
       value = sym (found_here c.args.n w c.args.r c.requires.named _ _ at u e) ∙ c.loop-step.invariant.1;
@@ -23,7 +23,7 @@ returns-then-next-eq0 c =
     let w = word c.args.bytes.now in
     let e : w c.loop-step.at ≡ 0 = sym c.read-next.ensures.value ∙ c.if-next-eq0.true in
     record {
-      value = sym (found-end c.args.n w c.args.r c.requires.named (c.args.m - c.loop-step.-step) c.loop-step.at e) ∙ c.loop-step.invariant.1;
+      value = sym (found-end c.args.n w c.args.r c.requires.named (c.args.m - c.loop-step._step) c.loop-step.at e) ∙ c.loop-step.invariant.1;
       within = tt;
     }
 
@@ -34,16 +34,16 @@ loop-step-preserved c =
     let x = c.read-next.result in
     let is : x ≡ w at = c.read-next.ensures.value in
     let le : w at ≤ c.args.m = c.requires.small at c.loop-step.invariant.0 in
-    let u : c.args.m - c.loop-step.-step ≡ suc (c.args.m - (c.loop-step.-step + 1)) = omega arith in
+    let u : c.args.m - c.loop-step._step ≡ suc (c.args.m - (c.loop-step._step + 1)) = omega arith in
     let s = found-step c.args.n w c.args.r c.requires.named _ _ at u (λ e. c.if-next-r.false (is ∙ e)) (λ e. c.if-next-eq0.false (is ∙ e)) in (
       omega (arith, le, is, c.if-next-eq0.false, c.if-next-r.false),
-      ap (λ z. found c.args.n w (c.args.m - (c.loop-step.-step + 1)) (cell c.args.n z) c.args.r) is ∙ sym s ∙ c.loop-step.invariant.1,
+      ap (λ z. found c.args.n w (c.args.m - (c.loop-step._step + 1)) (cell c.args.n z) c.args.r) is ∙ sym s ∙ c.loop-step.invariant.1,
     )
 
 pub returns : goal.returns
 returns c =
     let w = word c.args.bytes.now in
-    let z : c.args.m - c.loop-step.-step ≡ 0 = omega arith in
+    let z : c.args.m - c.loop-step._step ≡ 0 = omega arith in
     record {
       value = sym (ap (λ f. found c.args.n w f c.loop-step.at c.args.r) z) ∙ c.loop-step.invariant.1;
       within = tt;

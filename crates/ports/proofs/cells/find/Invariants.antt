@@ -5,4 +5,4 @@ use Rattle.ports.proofs.cells.find.Given as goal
 
 abbrev pub invariant-loop-step : goal.invariant-loop-step
 invariant-loop-step l =
-    (l.at < l.n + l.m) × (found l.n (word l.bytes) (l.m - l.-step) l.at l.r ≡ found l.n (word l.bytes) l.m l.head l.r)
+    (l.at < l.n + l.m) × (found l.n (word l.bytes) (l.m - l._step) l.at l.r ≡ found l.n (word l.bytes) l.m l.head l.r)

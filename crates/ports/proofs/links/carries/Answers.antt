@@ -5,8 +5,8 @@ use Rattle.port_layout.proofs.Tables.{flag_at}
 use Rattle.port_layout.proofs.Walks.{found_some}
 use Rattle.ports.proofs.links.carries.Goals as goal
 
-pub overflow-sub-head : goal.overflow-sub-head
-overflow-sub-head c = (c.requires.table.joins c.args.i c.requires.within).first-is
+pub overflow_sub-head : goal.overflow_sub-head
+overflow_sub-head c = (c.requires.table.joins c.args.i c.requires.within).first-is
 
 pub find-requires : goal.find-requires
 find-requires c =
@@ -22,6 +22,6 @@ pub returns : goal.returns
 returns c =
     let n = c.args.n in
     let es = c.args.ends.now in
-    c.is-some.ensures ∙ ap is_some c.find.ensures.value
+    c.is_some.ensures ∙ ap is_some c.find.ensures.value
     ∙ found_some n (word c.args.bytes.now) (2 * length es) (first_head es c.args.i) (2 * c.args.i + 1)
     ∙ sym (flag_at n es c.args.bytes.now c.args.i c.requires.within)

@@ -5,8 +5,8 @@ use Rattle.port_layout.proofs.Tables.{flag_at}
 use Rattle.port_layout.proofs.Turns.{enabled-flags, enabled-table}
 use Rattle.ports.proofs.links.chain_link.Goals as goal
 
-pub overflow-sub-link : goal.overflow-sub-link
-overflow-sub-link c = (c.requires.table.joins c.args.i c.requires.within).first-is
+pub overflow_sub-link : goal.overflow_sub-link
+overflow_sub-link c = (c.requires.table.joins c.args.i c.requires.within).first-is
 
 pub push-requires : goal.push-requires
 push-requires c =
@@ -22,8 +22,8 @@ push-requires c =
       ),
     )
 
-pub overflow-sub-link-2 : goal.overflow-sub-link-2
-overflow-sub-link-2 c = (c.requires.table.joins c.args.i c.requires.within).second_is
+pub overflow_sub-link-2 : goal.overflow_sub-link-2
+overflow_sub-link-2 c = (c.requires.table.joins c.args.i c.requires.within).second_is
 
 pub push-requires-2 : goal.push-requires-2
 push-requires-2 c =

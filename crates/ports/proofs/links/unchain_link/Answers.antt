@@ -6,11 +6,11 @@ use Rattle.port_layout.proofs.Tables.{flag_at}
 use Rattle.port_layout.proofs.Turns.{disabled-flags, disabled-table, half-small, half-holds}
 use Rattle.ports.proofs.links.unchain_link.Goals as goal
 
-pub overflow-sub-link : goal.overflow-sub-link
-overflow-sub-link c = (c.requires.table.joins c.args.i c.requires.within).first-is
+pub overflow_sub-link : goal.overflow_sub-link
+overflow_sub-link c = (c.requires.table.joins c.args.i c.requires.within).first-is
 
-pub take-out-requires : goal.take-out-requires
-take-out-requires c =
+pub take_out-requires : goal.take_out-requires
+take_out-requires c =
     let t = c.requires.table in
     let j = t.joins c.args.i c.requires.within in
     record {
@@ -21,11 +21,11 @@ take-out-requires c =
       holds = sym (flag_at c.args.n c.args.ends.now c.args.bytes.now c.args.i c.requires.within) ∙ c.requires.on;
     }
 
-pub overflow-sub-link-2 : goal.overflow-sub-link-2
-overflow-sub-link-2 c = (c.requires.table.joins c.args.i c.requires.within).second_is
+pub overflow_sub-link-2 : goal.overflow_sub-link-2
+overflow_sub-link-2 c = (c.requires.table.joins c.args.i c.requires.within).second_is
 
-pub take-out-requires-2 : goal.take-out-requires-2
-take-out-requires-2 c =
+pub take_out-requires-2 : goal.take_out-requires-2
+take_out-requires-2 c =
     let n = c.args.n in
     let es = c.args.ends.now in
     let bs = c.args.bytes.now in
@@ -33,9 +33,9 @@ take-out-requires-2 c =
     let on = sym (flag_at n es bs i c.requires.within) ∙ c.requires.on in
     let t = c.requires.table in
     let j = t.joins i c.requires.within in
-    let e : c.take-out.new.bytes ≡ taken n (2 * length es) bs (2 * i + 1) (first_head es i) = c.take-out.ensures in
+    let e : c.take_out.new.bytes ≡ taken n (2 * length es) bs (2 * i + 1) (first_head es i) = c.take_out.ensures in
     record {
-      room = omega (arith, t.room, c.take-out.auto.bytes);
+      room = omega (arith, t.room, c.take_out.auto.bytes);
       small = subst (λ z. (p : ℕ) → p < n + 2 * length es → word z p ≤ 2 * length es) (sym e) (half-small n es bs t i c.requires.within on);
       starts = omega (arith, j.second_is, j.second-in);
       named = (omega arith, omega (arith, c.requires.within));
@@ -49,7 +49,7 @@ returns c =
     let bs = c.args.bytes.now in
     let i = c.args.i in
     let on = sym (flag_at n es bs i c.requires.within) ∙ c.requires.on in
-    let e : c.take-out-2.new.bytes ≡ disabled n es bs i = c.take-out-2.ensures ∙ ap (λ t. taken n (2 * length es) t (2 * i + 2) (second_head es i)) c.take-out.ensures in
+    let e : c.take_out-2.new.bytes ≡ disabled n es bs i = c.take_out-2.ensures ∙ ap (λ t. taken n (2 * length es) t (2 * i + 2) (second_head es i)) c.take_out.ensures in
     record {
       memory = e;
       table = subst (Table n es) (sym e) (disabled-table n es bs c.requires.table i c.requires.within on);

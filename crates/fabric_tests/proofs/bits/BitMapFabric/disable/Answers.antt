@@ -5,23 +5,23 @@ use Rattle.fabric_tests.specs.Bits.{flag, flags, turned}
 use Rattle.fabric_tests.proofs.Turns.{length-flags, flag_at, turned-flags}
 use Rattle.fabric_tests.proofs.bits.BitMapFabric.disable.Goals as goal
 
-pub returns-in-err-i : goal.returns-in-err-i
-returns-in-err-i c =
+pub returns-in_err-i : goal.returns-in_err-i
+returns-in_err-i c =
     let s = c.args.self.now in
-    let p = err_from_is_err_and c.from-residual.result c.from-residual.ensures.1 in
+    let p = err_from_is_err_and c.from_residual.result c.from_residual.ensures.1 in
     rw (p.1, p.2) (record {
-      answer = disable-outside (flags s.m s.words.now) s.m c.args.link (length-flags s.m s.words.now) _ c.in-err-i.ensures;
+      answer = disable-outside (flags s.m s.words.now) s.m c.args.link (length-flags s.m s.words.now) _ c.in_err-i.ensures;
       kept = refl;
       same = refl;
       memory = tt;
     })
 
-pub returns-then-not-is-set : goal.returns-then-not-is-set
-returns-then-not-is-set c =
+pub returns-then-not-is_set : goal.returns-then-not-is_set
+returns-then-not-is_set c =
     let s = c.args.self.now in
-    let i = c.in-ok-i.i in
-    let p = c.in-ok-i.ensures in
-    let off : get_or (flags s.m s.words.now) i false ≡ false = flag_at s.m s.words.now i p.2 ∙ sym c.if-not-is-set.ensures in
+    let i = c.in_ok-i.i in
+    let p = c.in_ok-i.ensures in
+    let off : get_or (flags s.m s.words.now) i false ≡ false = flag_at s.m s.words.now i p.2 ∙ sym c.if-not-is_set.ensures in
     record {
       answer = disable-carries-not (flags s.m s.words.now) s.m c.args.link (length-flags s.m s.words.now) i p off;
       kept = refl;
@@ -32,10 +32,10 @@ returns-then-not-is-set c =
 pub returns : goal.returns
 returns c =
     let s = c.args.self.now in
-    let i = c.in-ok-i.i in
-    let p = c.in-ok-i.ensures in
+    let i = c.in_ok-i.i in
+    let p = c.in_ok-i.ensures in
     let room : i < 32 * length s.words.now = omega (arith, p.2, s.fits) in
-    let on : flag s.words.now i ≡ true = sym c.if-not-is-set.ensures in
+    let on : flag s.words.now i ≡ true = sym c.if-not-is_set.ensures in
     let e : set s.words.now (i / 32) c.flipped.result ≡ turned s.words.now i = ap (set s.words.now (i / 32)) c.flipped.ensures in
     record {
       answer = disables (flags s.m s.words.now) s.m c.args.link (length-flags s.m s.words.now) i p (flag_at s.m s.words.now i p.2 ∙ on) _

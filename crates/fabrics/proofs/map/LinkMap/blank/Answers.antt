@@ -1,4 +1,4 @@
-use Rattle.std.proofs.Common.{◌≡◌, ℕ, ◌-◌, ◌≤◌, List, ◌++◌, length, get_or, drop, replicate, None, sym, refl, ap, ◌∙◌, subst, arith, rules}
+use Rattle.std.proofs.Common.{◌≡◌, ◌-◌, ◌++◌, length, get_or, drop, replicate, None, sym, refl, ap, ◌∙◌, arith, rules}
 use Rattle.fabrics.specs.Blank.{blanked}
 use Rattle.fabrics.specs.Map.{map_fault}
 use Rattle.fabrics.proofs.Blanks.{no-fault, zeroed, blank-at, length-blanked, fits, begins-blank}

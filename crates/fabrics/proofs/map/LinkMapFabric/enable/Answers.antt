@@ -1,4 +1,4 @@
-use Rattle.std.proofs.Common.{◌≡◌, set, sym, refl, ap}
+use Rattle.std.proofs.Common.{set, refl, ap}
 use Rattle.std.proofs.lemmas.Result.{err_from_is_err_and}
 use Rattle.fabrics.specs.Map.{flags}
 use Rattle.fabrics.proofs.Calls.{enable-outside, enable-carries, enables}

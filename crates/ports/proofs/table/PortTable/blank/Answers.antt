@@ -5,20 +5,20 @@ use Rattle.port_layout.specs.Makes.{table_size, table_fault}
 use Rattle.port_layout.proofs.Blanks.{granted, wired, begins-table, begins-blank, empty-table}
 use Rattle.ports.proofs.table.PortTable.blank.Goals as goal
 
-pub invariant-of-result : goal.invariant-of-result
-invariant-of-result c = (∣ empty-table c.args.bytes.now ∣₁, tt)
+pub invariant_of-result : goal.invariant_of-result
+invariant_of-result c = record { table = ∣ empty-table c.args.bytes.now ∣₁ }
 
-pub invariant-of-result-2 : goal.invariant-of-result-2
-invariant-of-result-2 c =
+pub invariant_of-result-2 : goal.invariant_of-result-2
+invariant_of-result-2 c =
     let n = c.args.n in
     let es = c.args.ends.now in
     let bs = c.args.bytes.now in
     let ys = c.fill.new.self in
     let k : ℕ = table_size n (length es) in
-    let none : table_fault n es (length bs) ≡ None = sym c.table-fault-refusal.ensures ∙ no-fault c.table-fault-refusal.result (sym c.if-is-some.ensures) in
+    let none : table_fault n es (length bs) ≡ None = sym c.table_fault-refusal.ensures ∙ no-fault c.table_fault-refusal.result (sym c.if-is_some.ensures) in
     let zeros : ys ≡ replicate k 0 = search rules in
     let e : ys ++ drop (k - 0) bs ≡ blanked k bs = zeroed k ys bs zeros in
-    (∣ begins-table n es bs (granted n es (length bs) none) (ys ++ drop (k - 0) bs) e ∣₁, tt)
+    record { table = ∣ begins-table n es bs (granted n es (length bs) none) (ys ++ drop (k - 0) bs) e ∣₁ }
 
 pub returns : goal.returns
 returns c =
@@ -27,12 +27,12 @@ returns c =
     let bs = c.args.bytes.now in
     let ys = c.fill.new.self in
     let k : ℕ = table_size n (length es) in
-    let none : table_fault n es (length bs) ≡ None = sym c.table-fault-refusal.ensures ∙ no-fault c.table-fault-refusal.result (sym c.if-is-some.ensures) in
+    let none : table_fault n es (length bs) ≡ None = sym c.table_fault-refusal.ensures ∙ no-fault c.table_fault-refusal.result (sym c.if-is_some.ensures) in
     let zeros : ys ≡ replicate k 0 = search rules in
     let e : ys ++ drop (k - 0) bs ≡ blanked k bs = zeroed k ys bs zeros in
     let g = granted n es (length bs) none in
     record {
-      refusal = c.table-fault-refusal.ensures;
+      refusal = c.table_fault-refusal.ensures;
       wiring = wired n es bs g none;
       outcome = begins-blank n es bs g none (ys ++ drop (k - 0) bs) e;
       lent = refl;

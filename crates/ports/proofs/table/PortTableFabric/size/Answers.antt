@@ -3,8 +3,8 @@ use Rattle.port_layout.proofs.Facts.{table_of}
 use Rattle.port_layout.proofs.Tables.{length-flags}
 use Rattle.ports.proofs.table.PortTableFabric.size.Goals as goal
 
-pub overflow-cast-result : goal.overflow-cast-result
-overflow-cast-result c =
+pub overflow_cast-result : goal.overflow_cast-result
+overflow_cast-result c =
     let s = c.args.self.now in
     let h : length s.ends.now ≤ 16384 = (table_of s.n s.ends.now s.bytes.now s.table).links in
     omega arith

@@ -1,4 +1,4 @@
-use Rattle.std.proofs.Common.{sym, ap, rules}
+use Rattle.std.proofs.Common.{sym, ap}
 use Rattle.std.specs.Option.{ok_or}
 use Rattle.weights.proofs.Making.{class_of-low}
 use Rattle.faults.specs.declared.WeightFault.TheVariants.{ClassAbove}
