@@ -1,4 +1,6 @@
 //! The lines that the text tool prints: a plan's tree, entries and work, or a refusal.
+#![tactic(auto)]
+
 mod output;
 mod refusal;
 

@@ -3,7 +3,6 @@ use Rattle.std.specs.Prelude.{ℕ, List, [], ◌∷◌, Some, None, Option, Resu
 use Rattle.std.specs.Option.{option_map, ok_or}
 use Rattle.faults.specs.declared.TextFault.{TextFault}
 use Rattle.faults.specs.declared.TextFault.TheVariants.{Malformed}
-use Rattle.network.specs.declared.types.Change.{Change}
 use Rattle.network.specs.declared.types.Change.TheVariants as change
 use Rattle.network.specs.declared.types.Ends.{Ends}
 use Rattle.plant_lines.specs.declared.item.Item.{Item}

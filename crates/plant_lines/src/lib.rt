@@ -1,4 +1,6 @@
 //! One line of a plant's text: bytes to what the line tells, or the refusal.
+#![tactic(auto)]
+
 mod item;
 mod line;
 

@@ -1,5 +1,5 @@
 -- One more link or change in the tables.
-use Rattle.std.proofs.Common.{◌≡◌, ℕ, ◌+◌, ◌<◌, ◌≤◌, true, false, cond, ltb, List, [], ◌∷◌, ◌++◌, length, Ok, Err, vec_items, vec_len, vec_capacity, Result, sym, refl, ap, ◌∙◌, arith}
+use Rattle.std.proofs.Common.{◌≡◌, ℕ, ◌+◌, ◌<◌, ◌≤◌, true, false, cond, ltb, List, [], ◌∷◌, ◌++◌, length, Ok, Err, vec_items, vec_len, vec_capacity, sym, refl, ap, ◌∙◌, arith}
 use Rattle.std.proofs.lemmas.Bool.{cond-true, cond-false, lt-ltb, le-ltb}
 use Rattle.std.specs.Global.{Vec}
 use Rattle.faults.specs.declared.TextFault.TheVariants.{OutOfPlace, OverCount}
@@ -7,7 +7,7 @@ use Rattle.network.specs.declared.types.Change.{Change}
 use Rattle.network.specs.declared.types.Ends.{Ends}
 use Rattle.network.specs.declared.types.LinkState.{LinkState}
 use Rattle.plant_tables.specs.declared.plant.Tables.{Tables}
-use Rattle.plant_tables.specs.File.{none, seen, with_link, with_change, linked, changed}
+use Rattle.plant_tables.specs.File.{none, seen, with_link, linked, changed}
 use Rattle.plant_tables.specs.Room.{Roomy}
 
 none-no : {X : Type 0} (xs : List X) → (length xs ≡ 0 → ⊥) → none xs ≡ false

@@ -1,5 +1,5 @@
 -- Tables that were just reserved.
-use Rattle.std.proofs.Common.{◌≡◌, ℕ, ◌≤◌, [], vec_items, vec_len, vec_capacity, ap, ◌∙◌, arith}
+use Rattle.std.proofs.Common.{◌≡◌, ℕ, ◌≤◌, [], vec_items, vec_len, vec_capacity, ap, arith}
 use Rattle.plant_tables.specs.declared.plant.Tables.{Tables}
 use Rattle.plant_tables.specs.File.{File, seen, blank}
 use Rattle.plant_tables.specs.Room.{Roomy, Reserved}

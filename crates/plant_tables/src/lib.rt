@@ -1,4 +1,6 @@
 //! The tables that the lines of a plant's text fill, and the memory for them.
+#![tactic(auto)]
+
 mod plant;
 mod room;
 mod tables;

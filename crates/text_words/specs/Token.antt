@@ -1,5 +1,5 @@
 -- What a word tells.
-use Rattle.std.specs.Prelude.{ℕ, Some, None, Option}
+use Rattle.std.specs.Prelude.{ℕ, None, Option}
 use Rattle.text_words.specs.declared.token.Letter.{Letter}
 use Rattle.text_words.specs.declared.token.Token.{Token}
 use Rattle.text_words.specs.declared.token.Token.TheVariants.{Head, Word}

@@ -1,4 +1,4 @@
-use Rattle.std.proofs.Common.{◌≡◌, ◌<◌, length, get_or, sym, ap, ◌∙◌, arith, rules, ltb-false, ltb-true}
+use Rattle.std.proofs.Common.{◌≡◌, ◌<◌, length, get_or, sym, ◌∙◌, arith, rules, ltb-false, ltb-true}
 use Rattle.text_words.proofs.Values.{numeral-none, numeral-zero, numeral-is}
 use Rattle.text_words.proofs.number.number.Goals as goal
 use Rattle.text_words.proofs.number.number.Goals.{in_default-via-then-word-lt2, in_default-via-else-word-lt2+in_default-1}

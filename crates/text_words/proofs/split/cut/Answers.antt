@@ -1,4 +1,4 @@
-use Rattle.std.proofs.Common.{sym, ap, ◌∙◌, arith, rules}
+use Rattle.std.proofs.Common.{arith, rules}
 use Rattle.text_words.proofs.Cutting.{parts_none, cut_at}
 use Rattle.text_words.proofs.split.cut.Goals as goal
 
