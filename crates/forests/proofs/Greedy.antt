@@ -1,12 +1,11 @@
 -- The steps of the loop that keeps links.
-use Rattle.std.proofs.Common.{◌≡◌, ℕ, ◌+◌, ◌<◌, ◌≤◌, Bool, true, false, cond, not, eqb, List, [], ◌∷◌, ◌++◌, reverse, length, get_or, take, drop, set, sym, refl, ap, ◌∙◌, subst, arith}
-use Rattle.std.proofs.lemmas.List.{drop_more, take_more_set, drop-set-lt, reverse-append, append_assoc, append-nil, drop_all}
+use Rattle.std.proofs.Common.{◌≡◌, ℕ, ◌+◌, ◌<◌, ◌≤◌, true, false, List, [], ◌∷◌, ◌++◌, reverse, length, get_or, take, drop, set, refl, ap, ◌∙◌, arith}
+use Rattle.std.proofs.lemmas.List.{drop_more, take_more_set, reverse-append, append_assoc, append-nil, drop_all}
 use Rattle.std.proofs.lemmas.Bool.{cond-true, cond-false}
 use Rattle.graphs.specs.declared.Link.{Link}
-use Rattle.graphs.specs.Graph.{label, joins}
+use Rattle.graphs.specs.Graph.{joins}
 use Rattle.forests.specs.Union.{Holds}
 use Rattle.graphs.specs.Forest.{greedy}
-use Rattle.forests.specs.Union.{Ends}
 
 -- What is left of two tables is the same, so is the next element and what is left after it.
 pub next-same : (now all : List Link) (i : ℕ) (d : Link) → i < length now → i < length all → drop i now ≡ drop i all → (get_or now i d ≡ get_or all i d) × (drop (i + 1) now ≡ drop (i + 1) all)

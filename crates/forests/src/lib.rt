@@ -1,5 +1,6 @@
 //! Least forests over lent words: links packed in words, union-find, a heap over a ranking of indexes, and Kruskal's
 //! greedy choice.
+#![tactic(auto)]
 
 mod by_place;
 mod heap;

@@ -3,7 +3,7 @@ use Rattle.std.proofs.Common.{◌≡◌, ℕ, zero, suc, ◌+◌, ◌<◌, ◌�
 use Rattle.std.proofs.lemmas.Bool.{cases_eq, cases_lt}
 use Rattle.std.proofs.lemmas.Bool.Decides.{nat_tests}
 use Rattle.graphs.specs.declared.Link.{Link}
-use Rattle.graphs.specs.Graph.{label, joins, here, later}
+use Rattle.graphs.specs.Graph.{label, here, later}
 use Rattle.graphs.specs.Forest.{Distinct, LoopFree}
 use Rattle.graphs.specs.Spanning.{Within}
 use Rattle.graphs.specs.Thin.{roots}

@@ -1,5 +1,5 @@
 -- The greedy forest: what it joins, that it is loop-free, and which links are in it.
-use Rattle.std.proofs.Common.{◌≡◌, ℕ, Bool, true, false, not, eqb, ◌⊎◌, ◌↔◌, List, [], ◌∷◌, refl, subst, inl, inr}
+use Rattle.std.proofs.Common.{◌≡◌, ℕ, Bool, true, false, eqb, ◌⊎◌, ◌↔◌, List, [], ◌∷◌, refl, subst, inl, inr}
 use Rattle.std.proofs.lemmas.Bool.{cond_both, both_ways, eq-eqb, eqb-true, or_cases, or_left, or_right}
 use Rattle.graphs.specs.declared.Link.{Link}
 use Rattle.graphs.specs.Graph.{joins, In, here, later}

@@ -2,7 +2,7 @@
 use Rattle.std.proofs.Common.{◌≡◌, ℕ, ◌≤◌, Bool, true, List, length}
 use Rattle.graphs.specs.declared.Link.{Link}
 use Rattle.graphs.specs.Graph.{joins}
-use Rattle.graphs.specs.Forest.{Strict, Distinct, LoopFree, filtered, forest, before, upto, uptos}
+use Rattle.graphs.specs.Forest.{Strict, Distinct, LoopFree, filtered, forest, upto, uptos}
 use Rattle.graphs.proofs.Joined.{◌⊆◌, joined_in, joins-spans}
 use Rattle.graphs.proofs.Lists.{filtered-sub, filtered-mono, filtered-distinct}
 use Rattle.graphs.proofs.Loops.{loopfree-sub}

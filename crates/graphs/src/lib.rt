@@ -1,5 +1,7 @@
 //! Links as a graph: what they join, Kruskal's forest, spanning trees, and how a block's graph is thinned. The functions here only carry
 //! theorems: each has the statement as its contract.
+#![tactic(auto)]
+
 ghost use Rattle.graphs.specs.Theorems.{JoinsDecided, ForestKept, LinksCounted, LoopFreeFew, ForestLeast, TreesSpanning, ThinningKeeps};
 
 /// A node of a block's graph, numbered from 1. A count of its own: a network's node has another type, and the

@@ -4,7 +4,7 @@ use Rattle.std.proofs.lemmas.List.{get_or-set_other}
 use Rattle.std.proofs.lemmas.Bool.{cases_Bool, eqb-false}
 use Rattle.graphs.specs.declared.Link.{Link}
 use Rattle.graphs.specs.Graph.{In}
-use Rattle.graphs.specs.Forest.{Distinct, forest}
+use Rattle.graphs.specs.Forest.{Distinct}
 use Rattle.graphs.proofs.Kruskal.{forest-sub, forest-distinct}
 use Rattle.graphs.proofs.Change.{one-change}
 use Rattle.plans.specs.declared.Move.{Move}

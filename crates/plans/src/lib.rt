@@ -1,5 +1,7 @@
 //! Plans of batches of changes: the least tree of a network at each moment of a batch, what each change exchanges, and the work count. The
 //! functions here only carry theorems: each has the statement as its contract, for every weight kind.
+#![tactic(auto)]
+
 ghost use Rattle.plans.specs.Theorems.{TreeLeast, AbsentLast, MovesStandings, PlansReplay, BlocksHalve, WorkBounded, SameOrder};
 ghost use Rattle.plans.specs.Worked.{Worked};
 

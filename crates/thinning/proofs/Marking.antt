@@ -1,7 +1,7 @@
 -- Marks, and links told apart by them.
-use Rattle.std.proofs.Common.{◌≡◌, ℕ, zero, suc, ◌+◌, ◌-◌, ◌/◌, ◌<◌, ◌≤◌, Bool, true, false, cond, not, eqb, List, [], ◌∷◌, ◌++◌, map, length, get_or, take, drop, set, filter, sym, refl, ap, ◌∙◌, subst, ap₂, inl, inr, arith}
+use Rattle.std.proofs.Common.{◌≡◌, ℕ, zero, suc, ◌+◌, ◌-◌, ◌/◌, ◌<◌, ◌≤◌, Bool, true, false, cond, eqb, List, [], ◌∷◌, ◌++◌, map, length, get_or, take, drop, set, filter, sym, refl, ap, ◌∙◌, subst, ap₂, inl, inr, arith}
 use mathlib.Core.Path.{fun_ext}
-use Rattle.std.proofs.lemmas.Bool.{cases_eq, eq-eqb, ne_eqb, ltb-true, cond-true, cond-false, both_ways}
+use Rattle.std.proofs.lemmas.Bool.{cases_eq, eq-eqb, ne_eqb, ltb-true, cond-true, cond-false}
 use Rattle.std.proofs.lemmas.List.{get_or-set_same, get_or-set_other, drop_more, take_more, drop_all, take_more_set, append-nil, map_push, length-take-le, get_or-take}
 use Rattle.std.proofs.lemmas.List.Elements.{filter_more}
 use Rattle.std.proofs.lemmas.Bool.Decides.{nat_tests}
@@ -15,7 +15,7 @@ use Rattle.forests.specs.Words.{no_link, link_in, links_in}
 use Rattle.forests.specs.Heap.{Indexes}
 use Rattle.forests.proofs.Packed.{length-links, links-at}
 use Rattle.forests.specs.Union.{Ends}
-use Rattle.forests.proofs.InOrder.{in-get_or, get_or-in}
+use Rattle.forests.proofs.InOrder.{in-get_or}
 use Rattle.thinning.specs.Marks.{flag, Blank, Under, Below, unmarked, Ascends, Numbers}
 use Rattle.graphs.proofs.Kruskal.{greedy-sub}
 

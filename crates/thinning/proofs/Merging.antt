@@ -1,13 +1,13 @@
 -- What thinning gives, from links and others in order.
-use Rattle.std.proofs.Common.{◌≡◌, ℕ, zero, suc, ◌-◌, ◌<◌, ◌≤◌, Bool, true, false, cond, not, eqb, ltb, ◌≢◌, ◌⊎◌, List, [], ◌∷◌, ◌++◌, length, get_or, take, sym, refl, ap, ◌∙◌, subst, inl, inr, arith}
-use Rattle.std.proofs.lemmas.Bool.{cases_Bool, cond-true, cond-false, cond_both, eqb-true, not-true, not_from_false, both_ways}
+use Rattle.std.proofs.Common.{◌≡◌, ℕ, zero, suc, ◌<◌, ◌≤◌, Bool, true, false, cond, not, ltb, List, [], ◌∷◌, ◌++◌, sym, refl, ap, ◌∙◌, subst, inl, inr, arith}
+use Rattle.std.proofs.lemmas.Bool.{cases_Bool, cond-true, cond-false, eqb-true, not-true, not_from_false, both_ways}
 use Rattle.std.proofs.lemmas.Bool.Decides.{nat_tests}
 use Rattle.graphs.specs.declared.Link.{Link}
 use Rattle.graphs.specs.Graph.{label, joins, In, here, later}
 use Rattle.graphs.specs.Forest.{Strict, Distinct, placed, ordered, greedy, forest, filtered}
-use Rattle.graphs.specs.Thin.{Block, reduced, named_first, mergeable, roots, renamed, relabel, contracted, thinned}
+use Rattle.graphs.specs.Thin.{Block, reduced, named_first, mergeable, roots, relabel, contracted, thinned}
 use Rattle.graphs.specs.Thinning.{chosen, rest, relabelled}
-use Rattle.graphs.proofs.Joined.{◌⊆◌, Joined, label_same, label-le}
+use Rattle.graphs.proofs.Joined.{label_same, label-le}
 use Rattle.graphs.proofs.Lists.{Sorted, filtered-sub, filtered-test, in-sift, filtered-step, ordered-in, in-ordered, sorted-ordered, sorted-distinct, filtered-distinct}
 use Rattle.graphs.proofs.Walks.{Apart, sifted, in_left, in_right, in_either}
 use Rattle.graphs.proofs.Orders.{strict-ltb, strict-named}

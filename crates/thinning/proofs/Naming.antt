@@ -1,10 +1,10 @@
 -- New numbers of merged nodes, from a table of parents.
-use Rattle.std.proofs.Common.{◌≡◌, ℕ, zero, suc, ◌+◌, ◌-◌, ◌<◌, ◌≤◌, min, max, Bool, true, false, cond, eqb, List, [], ◌∷◌, map, length, get_or, set, sym, refl, ap, ◌∙◌, ap₂, inl, inr, arith}
+use Rattle.std.proofs.Common.{◌≡◌, ℕ, zero, suc, ◌+◌, ◌-◌, ◌<◌, ◌≤◌, eqb, List, [], ◌∷◌, map, length, get_or, set, sym, refl, ap, ◌∙◌, ap₂, inl, inr, arith}
 use Rattle.std.proofs.lemmas.List.{get_or-set_same, get_or-set_other}
 use Rattle.std.proofs.lemmas.Bool.{cases_eq, eq-eqb, ne_eqb, cond-true, cond-false}
 use Rattle.std.proofs.lemmas.Bool.Decides.{nat_tests}
 use Rattle.graphs.specs.declared.Link.{Link}
-use Rattle.graphs.specs.Graph.{label, merged, In, here, later}
+use Rattle.graphs.specs.Graph.{label, here, later}
 use Rattle.forests.specs.Union.{Holds}
 use Rattle.graphs.specs.Thin.{roots, renamed, relabel}
 use Rattle.graphs.specs.Thinning.{relabelled}

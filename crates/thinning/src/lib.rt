@@ -1,5 +1,7 @@
 //! Thinning of a block's graph over lent words: links that no change of the block can bring in go out, links that every
 //! moment of the block holds have their ends merged, and what is left gives the same exchanges.
+#![tactic(auto)]
+
 ghost use Rattle.std.specs.Prelude.{◌≡◌, ℕ, ◌-◌, ◌/◌, ◌^◌, ◌<◌, ◌≤◌, Bool, length, take};
 ghost use Rattle.graphs.specs.Forest.{ordered, Strict};
 ghost use Rattle.graphs.specs.Thin.{Block, reduced, mergeable, roots, relabel, thinned};

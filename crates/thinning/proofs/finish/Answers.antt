@@ -1,4 +1,4 @@
-use Rattle.std.proofs.Common.{◌≡◌, ℕ, ◌-◌, ◌*◌, ◌/◌, ◌<◌, ◌≤◌, List, [], length, take, sym, refl, ap, ◌∙◌, subst, arith}
+use Rattle.std.proofs.Common.{◌≡◌, ℕ, ◌-◌, ◌*◌, List, [], length, take, sym, ap, ◌∙◌, subst, arith}
 use Rattle.graphs.specs.declared.Link.{Link}
 use Rattle.graphs.specs.Forest.{greedy, ordered}
 use Rattle.graphs.specs.Thin.{roots, reduced, relabel, mergeable}

@@ -1,4 +1,4 @@
-use Rattle.std.proofs.Common.{◌≡◌, ℕ, ◌-◌, ◌*◌, ◌<◌, ◌≤◌, List, length, take, sym, ◌∙◌, subst, arith}
+use Rattle.std.proofs.Common.{◌≡◌, ℕ, ◌-◌, ◌*◌, ◌<◌, ◌≤◌, List, length, take, ◌∙◌, subst, arith}
 use Rattle.std.proofs.lemmas.List.{length-take-le}
 use Rattle.graphs.specs.declared.Link.{Link}
 use Rattle.graphs.specs.Graph.{In}
@@ -8,7 +8,7 @@ use Rattle.plans.specs.Places.{place_before}
 use Rattle.plans.proofs.Orders.{strict-places}
 use Rattle.forests.specs.Words.{links_in}
 use Rattle.forests.proofs.Packed.{links-front}
-use Rattle.thinning.specs.Marks.{unmarked, Below, Under}
+use Rattle.thinning.specs.Marks.{unmarked, Under}
 use Rattle.thinning.proofs.thin.Goals as goal
 
 pub order_others-r-requires : goal.order_others-r-requires

@@ -1,8 +1,8 @@
-use Rattle.std.proofs.Common.{◌≡◌, ℕ, ◌-◌, ◌*◌, ◌/◌, ◌<◌, ◌≤◌, List, [], ◌++◌, length, take, sym, refl, ap, ◌∙◌, subst, arith}
+use Rattle.std.proofs.Common.{◌≡◌, ℕ, ◌-◌, ◌*◌, ◌≤◌, List, [], length, take, sym, ap, ◌∙◌, subst, arith}
 use Rattle.std.proofs.lemmas.List.{length-take-le}
 use Rattle.graphs.specs.declared.Link.{Link}
-use Rattle.graphs.specs.Forest.{greedy, ordered, forest}
-use Rattle.graphs.specs.Thin.{Block, roots, reduced, relabel, mergeable, thinned, contracted}
+use Rattle.graphs.specs.Forest.{ordered}
+use Rattle.graphs.specs.Thin.{roots, reduced, mergeable}
 use Rattle.forests.specs.Words.{links_in}
 use Rattle.forests.proofs.Packed.{links-front, links-before}
 use Rattle.thinning.specs.Marks.{flag, unmarked, Below, Under, Ascends}

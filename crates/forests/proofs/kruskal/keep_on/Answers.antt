@@ -1,13 +1,12 @@
-use Rattle.std.proofs.Common.{◌≡◌, ℕ, ◌+◌, ◌<◌, ◌≤◌, true, false, not, List, [], ◌∷◌, ◌++◌, reverse, length, get_or, take, drop, set, sym, refl, ap, ◌∙◌, subst, ap₂, arith}
+use Rattle.std.proofs.Common.{◌≡◌, ℕ, ◌+◌, ◌<◌, true, false, List, ◌++◌, reverse, length, get_or, take, set, sym, refl, ap, ◌∙◌, ap₂, arith}
 use Rattle.std.proofs.lemmas.Bool.{not-true, not-false, eqb-true}
 use Rattle.std.proofs.lemmas.List.{drop-set-lt}
 use Rattle.graphs.specs.declared.Link.{Link}
-use Rattle.graphs.specs.Graph.{label, joins}
-use Rattle.forests.specs.Union.{Holds}
-use Rattle.forests.specs.Words.{no_link, link_in, links_in}
+use Rattle.graphs.specs.Graph.{joins}
+use Rattle.forests.specs.Words.{no_link, links_in}
 use Rattle.forests.proofs.Packed.{length-links, links-at}
 use Rattle.forests.proofs.Classes.{holds-without}
-use Rattle.forests.proofs.Greedy.{Sofar, next-same, sofar-in, sofar-out, sofar-end}
+use Rattle.forests.proofs.Greedy.{next-same, sofar-in, sofar-out, sofar-end}
 use Rattle.forests.proofs.kruskal.keep_on.Goals as goal
 use Rattle.forests.proofs.kruskal.keep_on.Goals.{then-unite, else-unite}
 

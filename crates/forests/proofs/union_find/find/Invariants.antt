@@ -1,4 +1,4 @@
-use Rattle.std.proofs.Common.{◌≡◌, ℕ, ◌<◌, ◌≤◌, List, length, get_or}
+use Rattle.std.proofs.Common.{◌≡◌, ◌<◌, ◌≤◌, List, length, get_or}
 use Rattle.graphs.specs.declared.Link.{Link}
 use Rattle.graphs.specs.Graph.{label}
 use Rattle.forests.specs.Union.{Falls, Holds}

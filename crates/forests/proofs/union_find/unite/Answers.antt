@@ -1,5 +1,4 @@
-use Rattle.std.proofs.Common.{◌≡◌, ◌<◌, ◌≤◌, min, max, not, eqb, List, ◌∷◌, length, get_or, set, sym, refl, ap, ◌∙◌, subst, arith}
-use Rattle.graphs.specs.declared.Link.{Link}
+use Rattle.std.proofs.Common.{◌≡◌, ◌<◌, ◌∷◌, length, sym, ap, ◌∙◌, subst, arith}
 use Rattle.graphs.specs.Graph.{label}
 use Rattle.forests.specs.Union.{Falls, Holds}
 use Rattle.forests.proofs.Classes.{holds-hung, holds-joined, hung-falls}

@@ -1,10 +1,10 @@
-use Rattle.std.proofs.Common.{◌≡◌, ℕ, Bool, List, length, get_or, take, filter, sym, refl, ap, ◌∙◌, subst, arith}
+use Rattle.std.proofs.Common.{◌≡◌, ℕ, Bool, List, length, get_or, take, filter, sym, ap, ◌∙◌, subst, arith}
 use Rattle.std.proofs.lemmas.List.{take_all}
 use Rattle.std.proofs.lemmas.Bool.{eq-eqb, ne_eqb}
 use Rattle.graphs.specs.declared.Link.{Link}
 use Rattle.forests.specs.Words.{no_link, links_in}
 use Rattle.forests.proofs.Packed.{length-links, links-at}
-use Rattle.forests.specs.Union.{Holds, Falls}
+use Rattle.forests.specs.Union.{Holds}
 use Rattle.thinning.specs.Marks.{flag, stacked}
 use Rattle.thinning.proofs.Marking.{ends-below, under_at, filtered-kept}
 use Rattle.thinning.proofs.Stacking.{stacked-none, stacked-in, stacked-out}

@@ -1,7 +1,7 @@
-use Rattle.std.proofs.Common.{◌≡◌, List, [], length, sym, refl, ap, ◌∙◌, subst, arith}
+use Rattle.std.proofs.Common.{◌≡◌, [], length, ap, ◌∙◌, arith}
 use Rattle.graphs.specs.Forest.{greedy}
 use Rattle.forests.specs.Words.{links_in}
-use Rattle.thinning.specs.Marks.{stacked, marked, Below}
+use Rattle.thinning.specs.Marks.{stacked, marked}
 use Rattle.thinning.proofs.Marking.{ends-below}
 use Rattle.thinning.proofs.contraction.merge.Goals as goal
 

@@ -1,9 +1,6 @@
-use Rattle.std.proofs.Common.{◌≡◌, ℕ, ◌+◌, ◌-◌, ◌<◌, ◌≤◌, List, length, get_or, set, sym, refl, ap, ◌∙◌, arith}
+use Rattle.std.proofs.Common.{◌≡◌, ℕ, ◌+◌, ◌-◌, ◌<◌, List, length, get_or, sym, ap, ◌∙◌, arith}
 use Rattle.std.proofs.lemmas.List.{get_or-set_same, length-set}
-use Rattle.graphs.specs.declared.Link.{Link}
-use Rattle.graphs.specs.Thin.{roots, renamed}
-use Rattle.forests.specs.Union.{Holds}
-use Rattle.thinning.specs.Names.{Renames}
+use Rattle.graphs.specs.Thin.{roots}
 use Rattle.thinning.proofs.Naming.{roots-none, renamed-none, roots-up, roots-level, renamed-top, renamed-up, renames-more}
 use Rattle.thinning.proofs.contraction.number_classes.Goals as goal
 use Rattle.thinning.proofs.contraction.number_classes.Goals.{then-up-x, else-up-x}

@@ -1,4 +1,4 @@
-use Rattle.std.proofs.Common.{◌≡◌, ℕ, ◌-◌, ◌<◌, ◌≤◌, List}
+use Rattle.std.proofs.Common.{◌≡◌, ◌-◌, ◌<◌, List}
 use Rattle.graphs.specs.declared.Link.{Link}
 use Rattle.graphs.specs.Thin.{roots}
 use Rattle.forests.specs.Union.{Holds}

@@ -1,12 +1,9 @@
-use Rattle.std.proofs.Common.{◌≡◌, ℕ, ◌+◌, ◌<◌, ◌≤◌, Bool, true, false, cond, not, List, [], ◌∷◌, ◌++◌, length, get_or, take, set, sym, refl, ap, ◌∙◌, subst, arith}
-use Rattle.std.proofs.lemmas.List.{get_or_default}
-use Rattle.std.proofs.lemmas.List.Filters.{FiltersInPlace, FiltersInPlace-all, FiltersInPlace-more_no, FiltersInPlace-more_set}
+use Rattle.std.proofs.Common.{◌≡◌, ◌<◌, List, length, get_or, set, sym, refl, ap, ◌∙◌, arith}
+use Rattle.std.proofs.lemmas.List.Filters.{FiltersInPlace-all, FiltersInPlace-more_no, FiltersInPlace-more_set}
 use Rattle.graphs.specs.declared.Link.{Link}
-use Rattle.graphs.specs.Thin.{either}
 use Rattle.forests.specs.Words.{no_link, links_in}
 use Rattle.forests.proofs.Packed.{length-links, links-at}
 use Rattle.forests.proofs.Greedy.{next-same}
-use Rattle.thinning.specs.Marks.{flag}
 use Rattle.thinning.proofs.Marking.{filtered-kept, under_at}
 use Rattle.thinning.proofs.marks.retain.Goals as goal
 use Rattle.thinning.proofs.marks.retain.Goals.{then-either_marks, else-either_marks}

@@ -1,9 +1,8 @@
-use Rattle.std.proofs.Common.{◌≡◌, ℕ, ◌+◌, ◌-◌, ◌*◌, ◌<◌, ◌≤◌, List, [], length, take, sym, refl, ap, ◌∙◌, subst, arith}
+use Rattle.std.proofs.Common.{◌≡◌, ℕ, ◌-◌, ◌*◌, List, [], length, take, sym, ap, ◌∙◌, arith}
 use Rattle.graphs.specs.declared.Link.{Link}
 use Rattle.graphs.specs.Forest.{greedy, ordered}
 use Rattle.forests.specs.Words.{links_in}
 use Rattle.forests.proofs.Packed.{links-front}
-use Rattle.thinning.specs.Marks.{flag, Under}
 use Rattle.thinning.proofs.Marking.{ends-below, chosen_is, under-greedy, reduced-is}
 use Rattle.thinning.proofs.reduction.reduce.Goals as goal
 
