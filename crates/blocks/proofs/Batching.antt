@@ -1,5 +1,5 @@
 -- A batch in top blocks.
-use Rattle.std.proofs.Common.{◌≡◌, ℕ, zero, suc, ◌+◌, ◌-◌, ◌*◌, ◌^◌, ◌<◌, ◌≤◌, min, cond, List, [], ◌∷◌, ◌++◌, length, get_or, take, drop, sym, refl, ap, ◌∙◌, subst, ap₂, inl, inr, mul-le-mul, arith}
+use Rattle.std.proofs.Common.{◌≡◌, ℕ, zero, suc, ◌+◌, ◌-◌, ◌*◌, ◌^◌, ◌<◌, ◌≤◌, min, List, [], ◌∷◌, ◌++◌, length, take, drop, sym, refl, ap, ◌∙◌, ap₂, inl, inr, mul-le-mul, arith}
 use Rattle.std.proofs.lemmas.Bool.{cases_lt}
 use Rattle.std.proofs.lemmas.Bool.Decides.{nat_tests}
 use Rattle.std.proofs.lemmas.List.{length-drop, take_all, drop_all, drop-drop}
@@ -8,7 +8,7 @@ use Rattle.graphs.specs.Thin.{Block}
 use Rattle.plans.specs.declared.Move.{Move}
 use Rattle.plans.specs.Places.{moved_by}
 use Rattle.plans.specs.Plan.{entries_by, Entry, entries}
-use Rattle.plans.specs.Work.{block_work, batch_work, work, least_power, doublings}
+use Rattle.plans.specs.Work.{block_work, work, least_power, doublings}
 use Rattle.plans.specs.Places.{by_place}
 use Rattle.plans.proofs.Orders.{lawful-places}
 use Rattle.plans.proofs.Work.{work-bound}

@@ -1,13 +1,11 @@
 -- A block and its halves.
-use Rattle.std.proofs.Common.{◌≡◌, ℕ, zero, suc, ◌+◌, ◌-◌, ◌*◌, ◌/◌, ◌<◌, ◌≤◌, Bool, true, false, List, [], ◌∷◌, ◌++◌, length, get_or, take, drop, set, sym, refl, ap, ◌∙◌, subst, ap₂, inl, inr, arith}
+use Rattle.std.proofs.Common.{◌≡◌, ℕ, ◌+◌, ◌-◌, ◌*◌, ◌/◌, ◌<◌, ◌≤◌, List, [], ◌∷◌, ◌++◌, length, get_or, take, drop, set, sym, refl, ap, ◌∙◌, subst, ap₂, inl, inr, arith}
 use mathlib.Core.Path.{fun_ext}
 use borrow.Rule.Slice.PartMut.{put_mid}
 use Rattle.std.proofs.lemmas.Bool.{cases_lt}
 use Rattle.std.proofs.lemmas.List.{get_or-take, get_or-drop, length-take, length-take-le, length-drop, take_rest, take_at, drop_at, drop_all, append-nil, take-append-drop}
 use Rattle.graphs.specs.declared.Link.{Link}
-use Rattle.graphs.specs.Graph.{In}
-use Rattle.graphs.specs.Forest.{Distinct}
-use Rattle.graphs.specs.Thin.{Block, thinned, contracted, reduced}
+use Rattle.graphs.specs.Thin.{Block, thinned, contracted}
 use Rattle.graphs.specs.Thinning.{merges}
 use Rattle.graphs.proofs.Thinned.{thinned-links}
 use Rattle.graphs.proofs.Nodes.{thinned-within, in-thinned}

@@ -1,5 +1,7 @@
 //! What each change of a batch exchanges in the least forest, by place numbers and over lent words: a recursion over blocks
 //! of changes, each with its graph thinned for them.
+#![tactic(auto)]
+
 ghost use Rattle.std.specs.Prelude.{◌≡◌, ℕ, ◌+◌, ◌-◌, ◌*◌, ◌^◌, ◌<◌, ◌≤◌, min, length};
 ghost use Rattle.plans.specs.Places.{moved_by};
 ghost use Rattle.plans.specs.Plan.{entries};

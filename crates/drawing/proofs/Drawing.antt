@@ -1,24 +1,21 @@
 -- A plan worked out by places is the plan by weights and states.
-use Rattle.std.proofs.Common.{◌≡◌, ℕ, zero, suc, ◌+◌, ◌-◌, ◌<◌, ◌≤◌, Bool, true, false, cond, not, ltb, List, [], ◌∷◌, ◌++◌, map, length, get_or, take, IfOk, None, Ok, Err, Option, Result, sym, refl, ap, ◌∙◌, subst, ap₂, inl, inr, arith}
-use Rattle.std.proofs.lemmas.List.{get_or_append_left, get_or-append_right, get_or-take, length-take-le, length-append}
+use Rattle.std.proofs.Common.{◌≡◌, ℕ, ◌+◌, ◌-◌, ◌<◌, ◌≤◌, true, false, cond, ltb, List, [], ◌∷◌, ◌++◌, map, length, get_or, take, IfOk, None, Ok, Err, Option, Result, sym, refl, ap, ◌∙◌, subst, ap₂, inl, inr, arith}
+use Rattle.std.proofs.lemmas.List.{get_or_append_left, get_or-append_right, get_or-take, length-take-le}
 use Rattle.std.proofs.lemmas.Bool.{cases_lt, not-true}
 use Rattle.faults.specs.declared.DrawFault.{DrawFault}
 use Rattle.weights.specs.declared.order.Side.{Side}
-use Rattle.weights.specs.declared.standing.Standing.{Standing}
 use Rattle.weights.specs.declared.standing.Standing.TheVariants.{Absent}
 use Rattle.weights.specs.Order.{compared, stand}
 use Rattle.network.specs.declared.types.Ends.{Ends}
 use Rattle.network.specs.declared.types.LinkState.{LinkState}
 use Rattle.network.specs.declared.types.Change.{Change}
 use Rattle.network.specs.Ends.{first_end_fault, or_else}
-use Rattle.graphs.specs.declared.Link.{Link}
-use Rattle.graphs.specs.Graph.{joins}
 use Rattle.graphs.specs.Spanning.{AllJoined}
 use Rattle.graphs.proofs.Joined.{joins-joined, joined-joins, joined-mono}
 use Rattle.graphs.proofs.Lists.{filtered-sub}
 use Rattle.graphs.proofs.Trees.{all-joined}
 use Rattle.plans.specs.declared.Move.{Move}
-use Rattle.plans.specs.Network.{Sided, graph_of, present_links, standings, link_of, changed, moves_of, plan, work_count, parted_at, tear_of}
+use Rattle.plans.specs.Network.{Sided, graph_of, present_links, standings, link_of, changed, moves_of, plan, work_count, parted_at}
 use Rattle.plans.specs.Plan.{entries}
 use Rattle.plans.specs.Same.{pool, movers, Faithful, AbsentAt}
 use Rattle.plans.specs.Tears.{torn_at, first_tear}

@@ -1,5 +1,5 @@
 -- The least tree of sound tables: whether the present links join all nodes, told by counting, and the tree table.
-use Rattle.std.proofs.Common.{◌≡◌, ℕ, suc, ◌+◌, ◌-◌, ◌/◌, ◌<◌, ◌≤◌, Bool, true, false, ◌⊎◌, List, [], ◌∷◌, ◌++◌, length, get_or, take, drop, sym, refl, ap, ◌∙◌, subst, ap₂, inl, inr, arith}
+use Rattle.std.proofs.Common.{◌≡◌, ℕ, suc, ◌+◌, ◌-◌, ◌/◌, ◌<◌, ◌≤◌, true, false, List, ◌++◌, length, get_or, take, drop, sym, ap, ◌∙◌, subst, ap₂, inl, inr, arith}
 use Rattle.std.proofs.lemmas.Bool.{cases_Bool}
 use Rattle.std.proofs.lemmas.List.{get_or-take, length-take-le}
 use Rattle.weights.specs.declared.order.Side.{Side}
@@ -7,8 +7,8 @@ use Rattle.network.specs.declared.types.Ends.{Ends}
 use Rattle.network.specs.declared.types.LinkState.{LinkState}
 use Rattle.graphs.specs.declared.Link.{Link}
 use Rattle.graphs.specs.Graph.{In}
-use Rattle.graphs.specs.Forest.{Distinct, forest}
-use Rattle.graphs.specs.Spanning.{Within, AllJoined, all_joined}
+use Rattle.graphs.specs.Forest.{Distinct}
+use Rattle.graphs.specs.Spanning.{Within, all_joined}
 use Rattle.graphs.proofs.Lists.{filtered-sub}
 use Rattle.graphs.proofs.Kruskal.{forest-sub, forest-distinct}
 use Rattle.graphs.proofs.Trees.{joined_length, all-joined}
@@ -22,7 +22,6 @@ use Rattle.forests.proofs.Packed.{links-at, length-links}
 use Rattle.drawing.specs.Tables.{fronted, joined}
 use Rattle.drawing.proofs.Standings.{strict-links}
 use Rattle.drawing.proofs.Present.{present-distinct}
-use Rattle.drawing.proofs.Fits.{Fit}
 
 module _ {W : Type 0} (side : W → W → Side) (laws : Sided side) (n : ℕ) (ends : List Ends) (links : List (LinkState W)) where
   abbrev L : List Link

@@ -1,9 +1,9 @@
 -- The present links, listed by index, are those of the network's graph.
-use Rattle.std.proofs.Common.{◌≡◌, ℕ, zero, suc, ◌+◌, ◌-◌, ◌*◌, ◌/◌, ◌<◌, ◌≤◌, Bool, true, false, cond, ◌⊎◌, List, [], ◌∷◌, ◌++◌, map, length, get_or, take, drop, sym, refl, ap, ◌∙◌, subst, ap₂, inl, inr, add-one, arith, length-drop}
+use Rattle.std.proofs.Common.{◌≡◌, ℕ, zero, suc, ◌+◌, ◌-◌, ◌*◌, ◌<◌, ◌≤◌, Bool, true, false, List, [], ◌∷◌, ◌++◌, map, length, get_or, take, drop, sym, refl, ap, ◌∙◌, subst, ap₂, inl, inr, add-one, arith, length-drop}
 use Rattle.std.proofs.lemmas.List.{get_or-map, drop_more, take_all, take-append-le, length-append, length-take-le}
 use Rattle.std.proofs.lemmas.Bool.{cases_Bool, cond_both, cond-true, cond-false}
 use Rattle.weights.specs.declared.standing.Standing.{Standing}
-use Rattle.weights.specs.declared.standing.Standing.TheVariants.{At, Absent}
+use Rattle.weights.specs.declared.standing.Standing.TheVariants.{Absent}
 use Rattle.network.specs.declared.types.Ends.{Ends}
 use Rattle.network.specs.declared.types.LinkState.{LinkState}
 use Rattle.graphs.specs.declared.Link.{Link}
@@ -11,7 +11,7 @@ use Rattle.graphs.specs.Graph.{In, here, later}
 use Rattle.graphs.specs.Forest.{Distinct, ordered, filtered}
 use Rattle.graphs.proofs.Lists.{filtered-sub, filtered-distinct, ordered-in}
 use Rattle.plans.specs.Places.{value_of}
-use Rattle.plans.specs.Network.{graph_from, graph_of, is_at, standing_if, standing_of, standings, standing_at, present_links}
+use Rattle.plans.specs.Network.{graph_from, graph_of, is_at, standing_if, standing_of, standing_at, present_links}
 use Rattle.plans.proofs.Standings.{graph-distinct}
 use Rattle.forests.specs.Words.{links_in}
 use Rattle.forests.specs.Union.{Ends as EndsBelow}

@@ -1,5 +1,5 @@
 -- A batch as the recursion takes it: the network's graph, and moves to places.
-use Rattle.std.proofs.Common.{◌≡◌, ℕ, zero, suc, ◌+◌, ◌*◌, ◌^◌, ◌<◌, ◌≤◌, Bool, true, false, cond, eqb, ltb, ◌⊎◌, List, [], ◌∷◌, map, length, get_or, Some, None, Ok, Err, Option, Result, sym, refl, ap, ◌∙◌, subst, inl, inr, add-one, arith}
+use Rattle.std.proofs.Common.{◌≡◌, ℕ, zero, suc, ◌+◌, ◌<◌, ◌≤◌, true, false, cond, eqb, ltb, List, [], ◌∷◌, map, length, get_or, Some, None, Ok, Err, Option, Result, sym, ap, ◌∙◌, subst, arith}
 use lib.ListN.{length-map}
 use Rattle.std.proofs.lemmas.List.{get_or-map, same_lists}
 use Rattle.std.proofs.lemmas.Bool.{cond-true, cond-false, ne_eqb}
@@ -9,18 +9,16 @@ use Rattle.network.specs.declared.types.Ends.{Ends}
 use Rattle.network.specs.declared.types.Change.{Change}
 use Rattle.network.specs.Ends.{first_end_fault}
 use Rattle.graphs.specs.declared.Link.{Link}
-use Rattle.graphs.specs.Graph.{In}
 use Rattle.graphs.proofs.Lists.{Sorted}
 use Rattle.plans.specs.declared.Move.{Move}
-use Rattle.plans.specs.Network.{graph_from, graph_of, link_of}
+use Rattle.plans.specs.Network.{graph_from, graph_of}
 use Rattle.plans.proofs.Standings.{faultless-within, graph-length, graph-numbers, graph-sorted}
-use Rattle.forests.specs.Words.{link, no_link}
+use Rattle.forests.specs.Words.{link}
 use Rattle.thinning.specs.Marks.{Ascends}
 use Rattle.blocks.specs.Block.{no_move, Sound}
 use Rattle.drawing.specs.Answer.{parted_fault, unless}
 use Rattle.places.specs.Moves.{Known, place_moves}
 use Rattle.drawing.specs.Tree.{no_ends, link_at}
-use Rattle.places.proofs.Commits.{moves-length, moves-at}
 
 graph_at : (k : ℕ) (ends : List Ends) (i : ℕ) (d : Link) → i < length ends
     → get_or (graph_from k ends) i d ≡ link (k + i) (get_or ends i no_ends).a.0 (get_or ends i no_ends).b.0

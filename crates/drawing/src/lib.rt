@@ -1,4 +1,6 @@
 //! The least tree of a network and the plan of a batch, worked out in lent memory.
+#![tactic(auto)]
+
 mod entries;
 mod plan;
 mod ranks;

@@ -1,11 +1,11 @@
 -- Whether the least forest of at most two links holds a late one.
-use Rattle.std.proofs.Common.{◌≡◌, ℕ, ◌<◌, ◌≤◌, Bool, true, false, cond, ◌||◌, eqb, ltb, leb, List, [], ◌∷◌, ◌++◌, map, length, get_or, sym, refl, ap, ◌∙◌, subst, ap₂, arith}
+use Rattle.std.proofs.Common.{◌≡◌, ℕ, ◌≤◌, Bool, true, false, cond, ◌||◌, eqb, ltb, leb, List, [], ◌∷◌, ◌++◌, map, length, get_or, sym, refl, ap, ◌∙◌, subst, ap₂, arith}
 use Rattle.std.proofs.lemmas.Bool.{cond-true, cond-false}
 use Rattle.graphs.specs.declared.Link.{Link}
-use Rattle.graphs.specs.Graph.{label, In, here}
+use Rattle.graphs.specs.Graph.{label, here}
 use Rattle.graphs.specs.Forest.{greedy, ordered, placed}
 use Rattle.plans.specs.Places.{place_of, place_before}
-use Rattle.plans.specs.Plan.{tree_at, numbers}
+use Rattle.plans.specs.Plan.{numbers}
 use Rattle.thinning.specs.Marks.{Ascends}
 use Rattle.forests.specs.Words.{no_link}
 use Rattle.leaves.specs.Leaf.{crossing, winner, late_link}

@@ -1,4 +1,6 @@
 //! The block of one change, moves and entries in words, and the tally of work and tears.
+#![tactic(auto)]
+
 mod single;
 mod tally;
 mod words;

@@ -1,5 +1,5 @@
 -- The pool of a batch: all standings that occur in it, each told by where its weight stands; and the places of a ranking.
-use Rattle.std.specs.Prelude.{◌≡◌, ℕ, zero, suc, ◌+◌, ◌-◌, Bool, cond, List, ◌++◌, map, set, Option, ◌==◌, slice_index, slice_index_or, slice_set}
+use Rattle.std.specs.Prelude.{◌≡◌, ℕ, zero, suc, ◌+◌, ◌-◌, Bool, cond, List, ◌++◌, map, Option, ◌==◌, slice_index, slice_index_or, slice_set}
 use Rattle.faults.specs.declared.DrawFault.{DrawFault}
 use Rattle.weights.specs.declared.order.Side.{Side}
 use Rattle.weights.specs.declared.standing.Standing.{Standing}

@@ -1,4 +1,6 @@
 //! The changes of a batch, judged and made, and the places of all standings that occur in it.
+#![tactic(auto)]
+
 mod changes;
 mod places;
 mod pool;

@@ -1,11 +1,11 @@
 -- Refusals of a batch in their order, and the network at the end of one that is granted.
-use Rattle.std.proofs.Common.{◌≡◌, ℕ, zero, suc, ◌+◌, ◌-◌, ◌*◌, ◌<◌, ◌≤◌, Bool, true, false, cond, ◌||◌, eqb, ltb, List, [], ◌∷◌, ◌++◌, length, drop, is_some, Some, None, Ok, Err, Option, Result, sym, refl, ap, ◌∙◌, subst, ap₂, inl, inr, arith}
+use Rattle.std.proofs.Common.{◌≡◌, ℕ, suc, ◌+◌, ◌-◌, ◌*◌, ◌<◌, ◌≤◌, Bool, true, false, cond, eqb, ltb, List, [], ◌∷◌, ◌++◌, length, drop, is_some, Some, None, Ok, Err, Option, sym, refl, ap, ◌∙◌, ap₂, inl, inr, arith}
 use Rattle.std.proofs.lemmas.Bool.{cases_Bool, cond-true, cond-false, both_ways, lt-ltb}
 use Rattle.std.proofs.lemmas.Bool.Decides.{nat_tests}
 use Rattle.faults.specs.declared.OpenFault.{OpenFault}
 use Rattle.faults.specs.declared.OpenFault.TheVariants.{NotJoined}
 use Rattle.faults.specs.declared.DrawFault.{DrawFault}
-use Rattle.faults.specs.declared.DrawFault.TheVariants.{ChangeCount, ShortTables, Parted}
+use Rattle.faults.specs.declared.DrawFault.TheVariants.{ChangeCount, Parted}
 use Rattle.weights.specs.declared.order.Side.{Side}
 use Rattle.network.specs.declared.types.Ends.{Ends}
 use Rattle.network.specs.declared.types.LinkState.{LinkState}
@@ -14,11 +14,11 @@ use Rattle.network.specs.Ends.{or_else}
 use Rattle.graphs.specs.Spanning.{all_joined}
 use Rattle.plans.specs.Network.{graph_of, present_links, least_tree, changed, changed_by, parted_from, parted_at}
 use Rattle.drawing.specs.Tables.{fronted, tables_fault, joined}
-use Rattle.planner.specs.Open.{open_fault, network_fault}
+use Rattle.planner.specs.Open.{network_fault}
 use Rattle.places.specs.Changes.{changes_fault}
 use Rattle.drawing.specs.Answer.{parted_fault, unless}
 use Rattle.planner.specs.Draw.{too_short, batch_fault}
-use Rattle.places.proofs.Refusals.{cond-none, or_else-none}
+use Rattle.places.proofs.Refusals.{or_else-none}
 use Rattle.drawing.proofs.Fits.{Fit, fits}
 
 -- An answer tells whether there was a refusal.

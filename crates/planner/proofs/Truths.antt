@@ -1,5 +1,5 @@
 -- What is true of a draw follows from what it answers.
-use Rattle.std.proofs.Common.{◌≡◌, ℕ, zero, suc, ◌+◌, ◌*◌, ◌<◌, ◌≤◌, Bool, true, false, cond, ◌||◌, eqb, ltb, List, [], ◌∷◌, length, take, Some, None, Ok, Err, Option, sym, refl, ap, ◌∙◌, subst, inl, inr, arith}
+use Rattle.std.proofs.Common.{◌≡◌, ℕ, zero, suc, ◌+◌, ◌≤◌, Bool, true, false, ◌||◌, eqb, ltb, List, [], ◌∷◌, length, Some, None, Err, Option, sym, refl, ap, ◌∙◌, inl, inr, arith}
 use Rattle.std.proofs.lemmas.Bool.{cases_Bool, cond_both, cond-true, cond-false, both_ways}
 use Rattle.std.proofs.lemmas.Bool.Decides.{nat_tests}
 use Rattle.faults.specs.declared.DrawFault.{DrawFault}
@@ -19,7 +19,7 @@ use Rattle.planner.specs.declared.drawn.Drawn.{Drawn}
 use Rattle.drawing.specs.Tables.{joined}
 use Rattle.places.specs.Changes.{remove_fault, change_fault, changes_fault}
 use Rattle.drawing.specs.Answer.{parted_fault}
-use Rattle.planner.specs.Truth.{WholeAt, Granted, Parts, Truth}
+use Rattle.planner.specs.Truth.{WholeAt, Granted, Truth}
 
 -- Some moment parts the network, or none does.
 module _ {W : Type 0} (n : ℕ) (ends : List Ends) where

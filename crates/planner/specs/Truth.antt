@@ -7,7 +7,7 @@ use Rattle.network.specs.declared.types.Ends.{Ends}
 use Rattle.network.specs.declared.types.LinkState.{LinkState}
 use Rattle.network.specs.declared.types.Change.{Change}
 use Rattle.graphs.specs.Spanning.{AllJoined}
-use Rattle.plans.specs.Network.{graph_of, present_links, least_tree, link_of, links_at, plan, work_count}
+use Rattle.plans.specs.Network.{graph_of, present_links, least_tree, link_of, links_at, plan}
 use Rattle.plans.specs.Plan.{replayed, Exchange}
 use Rattle.plans.specs.Theorems.{none, LeastPower}
 use Rattle.plans.specs.Work.{doublings}

@@ -1,4 +1,6 @@
 //! The book: a network with its least tree, over lent tables.
+#![tactic(auto)]
+
 mod book;
 mod drawn;
 mod tables;

@@ -1,4 +1,4 @@
-use Rattle.std.proofs.Common.{◌≡◌, ℕ, ◌+◌, ◌*◌, ◌<◌, ◌≤◌, List, length, sym, refl, ◌∙◌, arith}
+use Rattle.std.proofs.Common.{◌≡◌, ℕ, ◌+◌, ◌*◌, length, arith}
 use Rattle.forests.specs.Words.{links_in}
 use Rattle.leaves.specs.Words.{moves_in}
 use Rattle.blocks.proofs.Batching.{work-fits}

@@ -1,4 +1,4 @@
-use Rattle.std.proofs.Common.{◌≡◌, ℕ, ◌+◌, ◌-◌, ◌*◌, ◌/◌, ◌^◌, ◌<◌, ◌≤◌, min, List, ◌++◌, length, take, drop, sym, refl, ap, ◌∙◌, subst, arith}
+use Rattle.std.proofs.Common.{◌≡◌, ℕ, ◌+◌, ◌-◌, ◌*◌, ◌/◌, ◌^◌, ◌<◌, ◌≤◌, min, List, length, take, drop, sym, ap, ◌∙◌, subst, arith}
 use Rattle.std.proofs.lemmas.List.{length-drop, length-take-le}
 use Rattle.graphs.specs.declared.Link.{Link}
 use Rattle.plans.specs.declared.Move.{Move}
@@ -6,7 +6,6 @@ use Rattle.plans.specs.Work.{block_work}
 use Rattle.forests.specs.Words.{links_in}
 use Rattle.forests.proofs.Packed.{length-links}
 use Rattle.leaves.specs.Words.{move, moves_in, exchange, entries_in}
-use Rattle.blocks.specs.Rooms.{Scratch, Room}
 use Rattle.blocks.specs.Block.{Fits}
 use Rattle.leaves.proofs.Pairs.{length_pairs, pairs-part, pairs-written}
 use Rattle.blocks.proofs.Halving.{block_of, known-take, known-drop, scratch-kept}

@@ -1,4 +1,4 @@
-use Rattle.std.proofs.Common.{◌-◌, ◌/◌, length, take}
+use Rattle.std.proofs.Common.{◌-◌, take}
 use Rattle.forests.specs.Words.{links_in}
 use Rattle.thinning.specs.Marks.{Blank}
 use Rattle.leaves.specs.Words.{moves_in, entries_in}

@@ -1,10 +1,9 @@
-use Rattle.std.proofs.Common.{◌≡◌, ℕ, ◌+◌, ◌-◌, ◌*◌, ◌/◌, ◌^◌, ◌<◌, ◌≤◌, List, [], ◌++◌, length, get_or, take, drop, set, sym, refl, ap, ◌∙◌, subst, ap₂, arith}
+use Rattle.std.proofs.Common.{◌≡◌, ℕ, ◌+◌, ◌-◌, ◌*◌, ◌/◌, ◌^◌, ◌<◌, ◌≤◌, List, ◌++◌, length, get_or, take, drop, sym, refl, ap, ◌∙◌, subst, arith}
 use Rattle.std.proofs.lemmas.List.{length-append, length-drop, length-take-le}
 use Rattle.graphs.specs.declared.Link.{Link}
-use Rattle.graphs.specs.Thin.{Block}
 use Rattle.plans.specs.declared.Move.{Move}
 use Rattle.plans.specs.Places.{moved, moved_by}
-use Rattle.plans.specs.Plan.{Entry, tree_at, entry, entries}
+use Rattle.plans.specs.Plan.{tree_at, entry}
 use Rattle.plans.specs.Work.{half, thinned_for, block_work}
 use Rattle.forests.specs.Words.{links_in}
 use Rattle.forests.proofs.Packed.{length-links, links-front}

@@ -1,13 +1,12 @@
-use Rattle.std.proofs.Common.{◌≡◌, ℕ, ◌+◌, ◌-◌, ◌<◌, ◌≤◌, Bool, List, length, take, sym, refl, ap, ◌∙◌, subst, ap₂, arith}
+use Rattle.std.proofs.Common.{◌≡◌, ℕ, ◌+◌, ◌-◌, Bool, List, length, take, sym, ap, ◌∙◌, subst, ap₂, arith}
 use Rattle.std.proofs.lemmas.List.{length-take-le}
 use Rattle.graphs.specs.declared.Link.{Link}
-use Rattle.graphs.specs.Thin.{Block, thinned}
+use Rattle.graphs.specs.Thin.{thinned}
 use Rattle.plans.specs.Places.{place_before}
 use Rattle.plans.specs.Work.{named}
-use Rattle.thinning.specs.Marks.{flag, Blank, Below, Ascends, Numbers}
+use Rattle.thinning.specs.Marks.{flag, Below, Ascends, Numbers}
 use Rattle.forests.specs.Words.{links_in}
 use Rattle.leaves.specs.Words.{moves_in}
-use Rattle.blocks.specs.Block.{Known}
 use Rattle.blocks.proofs.Halving.{named-flags, block_of}
 use Rattle.blocks.proofs.block.prepare.Goals as goal
 

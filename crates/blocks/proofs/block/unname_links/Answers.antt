@@ -1,5 +1,4 @@
-use Rattle.std.proofs.Common.{◌≡◌, ℕ, ◌+◌, ◌<◌, true, List, length, get_or, take, drop, set, sym, ap, ◌∙◌, subst, arith}
-use Rattle.std.proofs.lemmas.List.{take_all}
+use Rattle.std.proofs.Common.{◌≡◌, ℕ, ◌+◌, ◌<◌, true, List, length, get_or, drop, set, sym, ap, ◌∙◌, subst, arith}
 use Rattle.plans.specs.declared.Move.{Move}
 use Rattle.plans.specs.Work.{named}
 use Rattle.thinning.specs.Marks.{flag}

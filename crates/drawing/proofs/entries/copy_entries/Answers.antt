@@ -1,4 +1,4 @@
-use Rattle.std.proofs.Common.{◌≡◌, ◌/◌, ◌<◌, length, sym, refl, ◌∙◌, arith}
+use Rattle.std.proofs.Common.{◌/◌, ◌<◌, length, sym, refl, ◌∙◌, arith}
 use Rattle.leaves.specs.Words.{exchange, entries_in}
 use Rattle.leaves.proofs.Pairs.{length_pairs, pairs-at}
 use Rattle.places.proofs.Commits.{filled_more, filled-all}

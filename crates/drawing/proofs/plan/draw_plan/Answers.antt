@@ -1,8 +1,7 @@
-use Rattle.std.proofs.Common.{◌≡◌, ℕ, ◌+◌, ◌-◌, ◌*◌, ◌≤◌, List, length, Option, sym, ap, ◌∙◌, ap₂, arith}
-use Rattle.faults.specs.declared.DrawFault.{DrawFault}
+use Rattle.std.proofs.Common.{◌≡◌, ◌+◌, length, sym, ◌∙◌, arith}
 use Rattle.plans.specs.Network.{Sided}
 use Rattle.places.proofs.Judging.{granted-links}
-use Rattle.drawing.proofs.Drawing.{targets-length, not-torn, same_entries, same-work, same-parted, told-plan}
+use Rattle.drawing.proofs.Drawing.{targets-length, not-torn, told-plan}
 use Rattle.drawing.proofs.plan.draw_plan.Goals as goal
 
 pub run-requires : goal.run-requires

@@ -1,7 +1,7 @@
-use Rattle.std.proofs.Common.{length, arith}
+use Rattle.std.proofs.Common.{arith}
 use Rattle.leaves.specs.Words.{move, moves_in}
 use Rattle.blocks.specs.Block.{no_move}
-use Rattle.leaves.proofs.Pairs.{length_pairs, pairs-at}
+use Rattle.leaves.proofs.Pairs.{length_pairs}
 use Rattle.places.specs.Moves.{place_moves}
 use Rattle.places.proofs.Commits.{filled_more, filled-all, moves-length, moves-told}
 use Rattle.drawing.proofs.plan.list_moves.Goals as goal

@@ -1,4 +1,4 @@
-use Rattle.std.proofs.Common.{◌≡◌, ℕ, suc, ◌+◌, ◌*◌, ◌/◌, ◌<◌, ◌≤◌, true, false, ltb, List, length, sym, ap, ◌∙◌, subst, ap₂, arith}
+use Rattle.std.proofs.Common.{◌≡◌, ℕ, ◌+◌, ◌<◌, false, ltb, List, length, sym, ap, ◌∙◌, subst, ap₂, arith}
 use Rattle.std.proofs.lemmas.Bool.{ltb-true}
 use Rattle.graphs.specs.declared.Link.{Link}
 use Rattle.plans.specs.declared.Move.{Move}
@@ -7,8 +7,7 @@ use Rattle.plans.specs.Plan.{entries}
 use Rattle.plans.specs.Tears.{torn_at, first_tear}
 use Rattle.plans.specs.Work.{work}
 use Rattle.forests.specs.Words.{links_in}
-use Rattle.leaves.specs.Words.{move, moves_in}
-use Rattle.leaves.proofs.Pairs.{length_pairs}
+use Rattle.leaves.specs.Words.{moves_in}
 use Rattle.places.specs.Moves.{place_moves}
 use Rattle.places.proofs.Names.{own-names}
 use Rattle.drawing.proofs.Fits.{ends-between}

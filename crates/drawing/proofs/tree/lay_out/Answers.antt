@@ -1,4 +1,4 @@
-use Rattle.std.proofs.Common.{◌≡◌, ◌+◌, length, get_or, sym, ◌∙◌, add-one, arith}
+use Rattle.std.proofs.Common.{get_or, add-one, arith}
 use Rattle.drawing.specs.Tree.{link_at}
 use Rattle.drawing.proofs.LaidOut.{same-link, wrote-more, wrote-all}
 use Rattle.drawing.proofs.tree.lay_out.Goals as goal

@@ -1,14 +1,10 @@
-use Rattle.std.proofs.Common.{◌≡◌, ℕ, ◌+◌, ◌-◌, ◌*◌, ◌/◌, ◌<◌, ◌≤◌, Bool, List, [], ◌∷◌, ◌++◌, map, length, get_or, take, sym, ap, ◌∙◌, subst, arith}
-use Rattle.graphs.specs.declared.Link.{Link}
-use Rattle.graphs.specs.Graph.{In}
+use Rattle.std.proofs.Common.{◌≡◌, ◌-◌, ◌*◌, ◌≤◌, [], map, length, take, sym, ap, ◌∙◌, subst, arith}
 use Rattle.graphs.specs.Forest.{Distinct, ordered, greedy}
 use Rattle.plans.specs.Network.{graph_of, present_links, link_before}
 use Rattle.forests.specs.Heap.{Indexes}
-use Rattle.forests.specs.Union.{Ends}
 use Rattle.forests.specs.Words.{links_in}
-use Rattle.forests.proofs.InOrder.{in-get_or}
 use Rattle.drawing.specs.Tree.{present_indexes, link_at}
-use Rattle.drawing.proofs.Present.{present-listed, present-below, present-distinct, ordered-between, present-ordered, ordered-ends, front-links, lent-front, lent_length, lent_same}
+use Rattle.drawing.proofs.Present.{present-listed, present-below, present-distinct, present-ordered, ordered-ends, front-links, lent-front, lent_length, lent_same}
 use Rattle.drawing.proofs.tree.least_forest.Goals as goal
 
 pub sort_links-requires : goal.sort_links-requires

@@ -1,10 +1,10 @@
-use Rattle.std.proofs.Common.{◌≡◌, ℕ, suc, ◌+◌, ◌-◌, ◌*◌, ◌/◌, ◌<◌, ◌≤◌, true, false, length, take, sym, ap, ◌∙◌, subst, arith, rules}
+use Rattle.std.proofs.Common.{◌≡◌, ◌+◌, ◌-◌, ◌/◌, ◌≤◌, length, take, sym, subst, arith, rules}
 use Rattle.graphs.specs.Forest.{Distinct}
-use Rattle.plans.specs.Network.{Sided, least_forest}
+use Rattle.plans.specs.Network.{Sided}
 use Rattle.forests.specs.Words.{links_in}
 use Rattle.plans.proofs.Standings.{faultless-within}
 use Rattle.drawing.proofs.Present.{lent_length}
-use Rattle.drawing.proofs.Fits.{Fit, fits, ends-between}
+use Rattle.drawing.proofs.Fits.{fits, ends-between}
 use Rattle.drawing.proofs.LeastTree.{forest-apart, counted, forest-length, front-small, table_filled}
 use Rattle.drawing.proofs.tree.least_tree.Goals as goal
 

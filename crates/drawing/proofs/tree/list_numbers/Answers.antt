@@ -1,6 +1,6 @@
-use Rattle.std.proofs.Common.{◌≡◌, ◌+◌, ◌/◌, ◌<◌, ◌≤◌, List, map, length, take, set, sym, ap, ◌∙◌, subst, arith}
+use Rattle.std.proofs.Common.{◌≡◌, ◌+◌, ◌/◌, ◌<◌, map, length, take, set, sym, ◌∙◌, subst, arith}
 use Rattle.graphs.specs.declared.Link.{Link}
-use Rattle.forests.specs.Words.{no_link, link_in, links_in}
+use Rattle.forests.specs.Words.{no_link, links_in}
 use Rattle.forests.proofs.Packed.{length-links, links-at}
 use Rattle.drawing.proofs.Listing.{ranks-ltb, numbers-sorted, listed_more, listed-all, listed_small}
 use Rattle.drawing.proofs.tree.list_numbers.Goals as goal

@@ -1,8 +1,5 @@
-use Rattle.std.proofs.Common.{◌≡◌, length, ap, ◌∙◌, arith}
-use Rattle.graphs.specs.Forest.{Strict}
-use Rattle.plans.specs.Network.{Sided, standings, by_standing, link_before}
-use Rattle.plans.proofs.Orders.{strict-by}
-use Rattle.plans.proofs.Standings.{lawful-standing}
+use Rattle.std.proofs.Common.{◌∙◌, arith}
+use Rattle.plans.specs.Network.{Sided, link_before}
 use Rattle.forests.proofs.Indexing.{indexes-shuffled}
 use Rattle.forests.proofs.InOrder.{positions-ordered}
 use Rattle.drawing.specs.Tree.{link_at}

@@ -1,10 +1,9 @@
-use Rattle.std.proofs.Common.{◌≡◌, Bool, cond, List, length, get_or, sym, ap, ◌∙◌, ap₂, arith}
+use Rattle.std.proofs.Common.{◌≡◌, sym, ◌∙◌, arith}
 use Rattle.std.proofs.lemmas.Bool.{cond-true, cond-false}
 use Rattle.graphs.specs.declared.Link.{Link}
 use Rattle.forests.specs.Words.{no_link, links_in}
 use Rattle.forests.proofs.Packed.{length-links, links-at}
-use Rattle.plans.specs.Places.{place_before}
-use Rattle.leaves.specs.Leaf.{crossing, winner}
+use Rattle.leaves.specs.Leaf.{winner}
 use Rattle.leaves.proofs.Leaves.{winner-few, winner-two}
 use Rattle.leaves.proofs.single.first.Goals as goal
 

@@ -1,4 +1,4 @@
-use Rattle.std.proofs.Common.{◌≡◌, leb, sym, ap, ◌∙◌}
+use Rattle.std.proofs.Common.{leb, sym, ap, ◌∙◌}
 use Rattle.std.proofs.lemmas.Bool.{cond-true, cond-false, eq-eqb, ne_eqb}
 use Rattle.leaves.proofs.single.is_late.Goals as goal
 

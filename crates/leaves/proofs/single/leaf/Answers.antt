@@ -1,9 +1,7 @@
-use Rattle.std.proofs.Common.{◌≡◌, ℕ, ◌-◌, List, length, get_or, set, sym, ap, ◌∙◌, subst, ap₂, arith}
-use Rattle.std.proofs.lemmas.List.{length-set}
+use Rattle.std.proofs.Common.{◌≡◌, ℕ, ◌-◌, List, set, sym, ap, ◌∙◌, ap₂}
 use Rattle.graphs.specs.declared.Link.{Link}
 use Rattle.plans.specs.declared.Move.{Move}
 use Rattle.plans.specs.Places.{moved}
-use Rattle.plans.specs.Plan.{entry, tree_at}
 use Rattle.forests.specs.Words.{links_in}
 use Rattle.leaves.specs.Leaf.{winner}
 use Rattle.leaves.proofs.Leaves.{leaf-entry, moved-is, told, told-level, told-apart}

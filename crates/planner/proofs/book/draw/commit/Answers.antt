@@ -1,4 +1,4 @@
-use Rattle.std.proofs.Common.{◌≡◌, ℕ, length, refl, ap, ◌∙◌, ap₂, arith}
+use Rattle.std.proofs.Common.{ℕ, length, refl, ap, ◌∙◌, ap₂, arith}
 use Rattle.leaves.specs.Words.{exchange, entries_in}
 use Rattle.leaves.proofs.Pairs.{length_pairs}
 use Rattle.drawing.specs.Tables.{tables_fault}
