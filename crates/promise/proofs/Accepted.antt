@@ -1,5 +1,5 @@
 -- Networks that can be opened, and that batches keep so.
-use Rattle.std.proofs.Common.{◌≡◌, ℕ, zero, suc, ◌≤◌, true, false, cond, eqb, ltb, List, [], ◌∷◌, length, take, Some, None, refl, arith}
+use Rattle.std.proofs.Common.{◌≡◌, ℕ, zero, suc, ◌≤◌, true, cond, eqb, ltb, List, [], ◌∷◌, length, take, Some, None, arith}
 use Rattle.std.proofs.lemmas.List.{take_all}
 use Rattle.std.proofs.lemmas.Bool.{cond_both}
 use Rattle.std.proofs.lemmas.Bool.Decides.{nat_tests}
@@ -14,7 +14,7 @@ use Rattle.graphs.proofs.Trees.{all-joined}
 use Rattle.plans.specs.Network.{graph_of, present_links, changed, changed_by, parted_from, parted_at}
 use Rattle.plans.proofs.Standings.{faultless-within}
 use Rattle.planner.specs.Open.{tables_fault, open_fault, joined}
-use Rattle.planner.specs.Draw.{changes_fault, parted_fault, too_short, batch_fault, draw_fault}
+use Rattle.planner.specs.Draw.{changes_fault, parted_fault, too_short, draw_fault}
 use Rattle.places.proofs.Refusals.{cond-none, or_else-none}
 use Rattle.drawing.proofs.Fits.{fits}
 use Rattle.player.proofs.Nones.{cond-pass}

@@ -1,5 +1,5 @@
 -- The entries of a plan, as exchanges of what carries; and the bound of the work.
-use Rattle.std.proofs.Common.{◌≡◌, ℕ, suc, ◌+◌, ◌*◌, ◌^◌, ◌<◌, ◌≤◌, ◌⊎◌, List, [], ◌∷◌, length, get_or, take, drop, sym, refl, ap, ◌∙◌, subst, ap₂, inl, inr, mul-le-mul_left, arith}
+use Rattle.std.proofs.Common.{◌≡◌, ℕ, suc, ◌+◌, ◌*◌, ◌<◌, ◌≤◌, ◌⊎◌, List, [], ◌∷◌, length, get_or, take, drop, sym, ap, ◌∙◌, subst, ap₂, inl, inr, mul-le-mul_left, arith}
 use Rattle.std.proofs.lemmas.List.{get_or_append_left}
 use Rattle.std.proofs.lemmas.Bool.{cases_lt}
 use Rattle.weights.specs.declared.order.Side.{Side}
@@ -7,8 +7,8 @@ use Rattle.network.specs.declared.types.Change.{Change}
 use Rattle.plans.specs.Places.{table_at}
 use Rattle.plans.specs.Plan.{Entry, entry, tree_by}
 use Rattle.plans.specs.Work.{doublings}
-use Rattle.plans.specs.Network.{Sided, graph_of, standings, by_standing, link_of, links_at, least_tree, move_of, moves_of, plan, work_count}
-use Rattle.plans.specs.Theorems.{Replays, LeastPower, Bounded}
+use Rattle.plans.specs.Network.{Sided, graph_of, standings, by_standing, link_of, links_at, least_tree, moves_of, plan, work_count}
+use Rattle.plans.specs.Theorems.{Replays, LeastPower}
 use Rattle.plans.proofs.Moves.{entry_at}
 use Rattle.plans.proofs.Standings.{lawful-standing, graph-numbers, graph-distinct, standings-then, moves-length}
 use Rattle.plans.proofs.Present.{whole-tree}

@@ -1,19 +1,18 @@
 -- The least tree of a network, carried.
-use Rattle.std.proofs.Common.{◌≡◌, ℕ, suc, ◌-◌, ◌<◌, ◌≤◌, Bool, true, List, length, take, drop, sym, refl, ap, ◌∙◌, subst, arith}
+use Rattle.std.proofs.Common.{◌≡◌, ℕ, ◌-◌, ◌≤◌, Bool, true, List, length, take, drop, sym, ◌∙◌, subst, arith}
 use Rattle.std.proofs.lemmas.List.{take-append-le, take_all}
 use Rattle.weights.specs.declared.order.Side.{Side}
 use Rattle.network.specs.declared.types.Ends.{Ends}
 use Rattle.graphs.specs.declared.Link.{Link}
 use Rattle.graphs.specs.Graph.{In}
-use Rattle.graphs.specs.Forest.{filtered, upto, uptos, LoopFree}
-use Rattle.graphs.specs.Spanning.{SpanningTree}
+use Rattle.graphs.specs.Forest.{upto, uptos, LoopFree}
 use Rattle.graphs.proofs.Joined.{◌⊆◌, joined_in, joined-mono, joins-joined, joined-joins}
 use Rattle.graphs.proofs.Lists.{filtered-sub, filtered-test, in-sift, filtered-mono, filtered-distinct, same-num}
 use Rattle.graphs.proofs.Loops.{loopfree-sub}
 use Rattle.graphs.proofs.Rank.{rank}
 use Rattle.graphs.proofs.Trees.{tree-size}
-use Rattle.plans.specs.Plan.{among, numbers}
-use Rattle.plans.specs.Network.{Sided, graph_of, present_links, is_at, standing_at, least_forest, least_tree, link_before}
+use Rattle.plans.specs.Plan.{among}
+use Rattle.plans.specs.Network.{Sided, graph_of, is_at, standing_at, least_forest, least_tree, link_before}
 use Rattle.plans.specs.Theorems.{Least}
 use Rattle.plans.proofs.Numbers.{in-numbers, numbers-in}
 use Rattle.plans.proofs.Standings.{graph-numbers, graph-distinct}

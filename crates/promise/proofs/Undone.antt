@@ -1,5 +1,5 @@
 -- A change, made or taken back, while nothing else touches the fabric.
-use Rattle.std.proofs.Common.{◌≡◌, ℕ, ◌+◌, ◌-◌, ◌<◌, Bool, true, false, cond, eqb, ltb, ◌⊎◌, List, Some, None, Ok, Err, Option, Result, sym, refl, ap, ◌∙◌, subst, inl, inr, ⊎_elim, arith}
+use Rattle.std.proofs.Common.{◌≡◌, ℕ, ◌+◌, ◌-◌, Bool, false, cond, eqb, ltb, List, Some, None, Ok, Err, Option, Result, sym, refl, ap, ◌∙◌, subst, inl, inr, arith}
 use Rattle.std.proofs.lemmas.Bool.{ne_eqb, cond-false}
 use Rattle.faults.specs.declared.PlayerFault.TheVariants.{OtherPlan, NoEntry}
 use Rattle.player.specs.declared.states.Steady.{Steady}
@@ -7,7 +7,7 @@ use Rattle.player.specs.declared.states.Between.{Between}
 use Rattle.player.specs.declared.states.Kept.{Kept}
 use Rattle.player.specs.Plan.{Sheet, entry}
 use Rattle.player.specs.States.{Rest, rest, Way, way, unlike}
-use Rattle.player.specs.Moves.{pair_fault, come_fault, dimmed, lit, forward_fault, backward_fault, onward, back, arrived, returned, Forwards, Backwards, Joins, Cancels}
+use Rattle.player.specs.Moves.{pair_fault, come_fault, dimmed, lit, forward_fault, backward_fault, onward, back, arrived, returned, Backwards, Joins, Cancels}
 use Rattle.promise.specs.Undo.{Granted, Departs, Exchanged, JoinsExchange, DeparturesPart, CancelsUndo, BackwardsUndo, ChangesUndone}
 use Rattle.player.proofs.Nones.{none-some, cond-none, cond-pass}
 use Rattle.promise.proofs.Exchanges.{may-join, may-cancel, may-return, parted, exchanged, cancelled, gone-again}

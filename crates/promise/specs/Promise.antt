@@ -13,7 +13,7 @@ use Rattle.fabrics.specs.Meaning.{carries}
 use Rattle.player.specs.declared.states.Steady.{Steady}
 use Rattle.player.specs.Plan.{entry}
 use Rattle.promise.specs.Undo.{Exchanged}
-use Rattle.promise.specs.Installation.{Network, DrawnPlan, moment, Player, steady, Installation}
+use Rattle.promise.specs.Installation.{Network, DrawnPlan, moment, steady, Installation}
 use Rattle.promise.specs.Calls.{One, Reached}
 
 -- The links of a network that are present, and those that carry.

@@ -5,7 +5,7 @@ use Rattle.player.specs.declared.states.Steady.{Steady}
 use Rattle.player.specs.declared.states.Between.{Between}
 use Rattle.player.specs.declared.states.Kept.{Kept}
 use Rattle.player.specs.Plan.{Sheet}
-use Rattle.player.specs.States.{Rest, rest, Way, way}
+use Rattle.player.specs.States.{Rest, rest, way}
 use Rattle.player.specs.Moves.{Forwards, Backwards, Joins, Cancels}
 
 -- A call was granted, and its answer is such.

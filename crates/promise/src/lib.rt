@@ -1,5 +1,7 @@
 //! The promise over every sequence of the nine calls on one installation: what an installation is, what each call does to it,
 //! and what holds after any calls. The steps are made of the definitions that the calls' own contracts cite.
+#![tactic(auto)]
+
 ghost use Rattle.promise.specs.Promise.{NeverBroken};
 ghost use Rattle.promise.specs.Undo.{ChangesUndone};
 
