@@ -1,7 +1,7 @@
 -- Each call, as code makes it, is a step of the installation that it holds, or is not made.
-use Rattle.std.proofs.Common.{◌≡◌, ℕ, zero, suc, ◌+◌, ◌-◌, ◌*◌, ◌/◌, ◌<◌, ◌≤◌, Bool, true, false, cond, not, ◌&&◌, ◌||◌, eqb, ltb, leb, ◌⊎◌, List, [], ◌∷◌, ◌++◌, map, length, get_or, take, drop, set, replicate, is_some, Some, None, Ok, Err, Option, Result, sym, refl, ap, ◌∙◌, subst, ap₂, inl, inr, append_assoc, append-nil, arith}
+use Rattle.std.proofs.Common.{◌≡◌, ℕ, zero, suc, ◌+◌, ◌-◌, ◌*◌, ◌/◌, ◌<◌, Bool, true, false, cond, not, ◌&&◌, ◌||◌, eqb, ltb, leb, List, [], ◌∷◌, ◌++◌, map, length, get_or, take, drop, set, replicate, is_some, Some, None, Ok, Err, Option, sym, refl, ap, ◌∙◌, subst, ap₂, inl, inr, arith}
 use borrow.Rule.Slice.PartMut.{put_mid}
-use Rattle.std.proofs.lemmas.List.{length-set, length-map, length-drop, length-replicate, drop_all, take-append-drop, drop_more, take_more_set, get_or_past, get_or-set_same, get_or-set_other, map-set}
+use Rattle.std.proofs.lemmas.List.{length-set, length-map, length-replicate, take-append-drop, drop_more, get_or_past, get_or-set_same, get_or-set_other, map-set}
 use Rattle.std.proofs.lemmas.Bool.{both_ways, and_parts, cases_eq, cases_lt, cases_Bool, ltb-true, eqb-false}
 use Rattle.std.specs.Option.{option_map}
 use Rattle.faults.specs.declared.OpenFault.{OpenFault}
@@ -17,22 +17,21 @@ use Rattle.planner.specs.declared.drawn.Drawn.{Drawn}
 use Rattle.player.specs.Plan.{Sheet}
 use Rattle.promise.specs.declared.answer.Answer.{Answer}
 use Rattle.promise.specs.declared.answer.Answer.TheVariants.{NotMade, NotOpened, Drew, NotDrawn}
-use Rattle.promise.specs.Installation.{Network, after, DrawnPlan, drawn_from, Player, nobody, steady, between, Installation, new}
-use Rattle.promise.specs.Calls.{Request, opening, drawing, One, this, older, opened, drew, Step, open-granted, open-refused, draw-granted, draw-refused, Runs, none, then}
+use Rattle.promise.specs.Installation.{Network, after, DrawnPlan, drawn_from, Player, nobody, Installation, new}
+use Rattle.promise.specs.Calls.{Request, opening, One, this, older, drew, Step, open-granted, open-refused, draw-granted, draw-refused, Runs, none, then}
 use Rattle.promise.proofs.Accepted.{Accepted, open-accepts, all-accepted}
 use Rattle.promise.proofs.Trees.{tree-length}
 use Rattle.installation.specs.declared.call.Batch.{Batch}
 use Rattle.installation.specs.declared.call.Call.{Call}
 use Rattle.installation.specs.declared.call.Call.TheVariants as call
-use Rattle.installation.specs.declared.call.Line.{Line}
 use Rattle.installation.specs.declared.seat.Seat.{Seat}
 use Rattle.installation.specs.declared.seat.Seat.TheVariants.{Free, Still, Moving}
 use Rattle.installation.specs.Slots.{width, part, or_kept, Table}
 use Rattle.installation.specs.Perform.{Lent, Desk, fresh, plan_at, start_in, entries_in, if_closed, if_open, lay_it, by_player, drawn, asked, plans_after, slot_after, Made, Turn, Turns, done, next, TurnsRun, Seated, counted, links_now, tree_now}
 use Rattle.installation.specs.Hands.{Hand, Booked, Holds, Makes, Leads, is_free, may_draw, place_of, to_player, first_answer, open_answer}
-use Rattle.installation.specs.Turns.{PlanHeld, Played, Plays}
+use Rattle.installation.specs.Turns.{Plays}
 use Rattle.installation.proofs.Tables.{part-long, table-new, table-put}
-use Rattle.installation.proofs.Turned.{steady-seated, between-seated, nobody-steady, nobody-between}
+use Rattle.installation.proofs.Turned.{nobody-steady, nobody-between}
 
 -- What an answer tells of the fault.
 pub granted-none : {X E : Type 0} (o : Option E) (x y : X) → Ok x ≡ unless o y → (o ≡ None) × (x ≡ y)

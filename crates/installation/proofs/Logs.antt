@@ -1,10 +1,9 @@
 -- Writing answers down in a log.
 use Rattle.std.proofs.Common.{◌≡◌, ℕ, ◌+◌, ◌<◌, ◌≤◌, List, [], ◌∷◌, ◌++◌, length, get_or, take, drop, set, sym, ap, ◌∙◌, append_assoc, append-nil, arith}
 use borrow.Rule.Slice.PartMut.{put_mid}
-use Rattle.std.proofs.lemmas.List.{map-append, map-set, set-get_or, get_or-map, length-map, length-drop, take_more, take_more_set, take-map, drop-map, drop_all, take-append-drop}
+use Rattle.std.proofs.lemmas.List.{map-append, map-set, set-get_or, get_or-map, length-map, length-drop, take_more, take_more_set, take-map, drop_all, take-append-drop}
 use Rattle.promise.specs.declared.answer.Answer.{Answer}
 use Rattle.promise.specs.declared.answer.Answer.TheVariants.{NotMade}
-use Rattle.installation.specs.declared.call.Call.{Call}
 use Rattle.installation.specs.declared.call.Call.TheVariants.{Open}
 use Rattle.installation.specs.declared.call.Line.{Line}
 use Rattle.installation.specs.Perform.{calls, answers}

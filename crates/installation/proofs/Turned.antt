@@ -17,7 +17,7 @@ use Rattle.installation.specs.declared.call.Call.{Call}
 use Rattle.installation.specs.declared.call.Call.TheVariants as call
 use Rattle.installation.specs.declared.seat.Seat.{Seat}
 use Rattle.installation.specs.declared.seat.Seat.TheVariants.{Free, Still, Moving}
-use Rattle.installation.specs.Perform.{Lent, Desk, plan_at, lay_it, by_player, asked, slot_after, Made, Seated}
+use Rattle.installation.specs.Perform.{Desk, plan_at, lay_it, by_player, slot_after, Made, Seated}
 use Rattle.installation.specs.Turns.{PlanHeld, Played, Plays}
 
 -- The seats after a call.

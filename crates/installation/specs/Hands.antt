@@ -3,6 +3,8 @@ use Rattle.std.specs.Prelude.{◌≡◌, ℕ, Bool, true, false, cond, not, ◌&
 use Rattle.std.specs.Option.{option_map}
 use Rattle.faults.specs.declared.OpenFault.{OpenFault}
 use Rattle.weights.specs.declared.order.Side.{Side}
+use Rattle.weights.specs.declared.order.Ordered
+use Rattle.weights.specs.declared.weight.Weight
 use Rattle.network.specs.declared.types.Ends.{Ends}
 use Rattle.network.specs.declared.types.LinkState.{LinkState}
 use Rattle.network.specs.declared.types.Change.{Change}
@@ -46,7 +48,7 @@ pub record Hand (W F : Type 0) : Type 0 where
   pub at : ℕ
   pub fabric : F
 
-abbrev pub hand : {W F : Type 0} → Book W → List (Option Drawn) → List (Change W) → List ℕ → List (ℕ × ℕ) → ℕ → Seat → ℕ → F → Hand W F
+abbrev pub hand : {W F : Type 0} {kind : Weight.Ghosts W} {order : Ordered.Ghosts W} → Book W kind order → List (Option Drawn) → List (Change W) → List ℕ → List (ℕ × ℕ) → ℕ → Seat → ℕ → F → Hand W F
 hand book plans changes start entries work seat at fabric = record {
   n = book.n;
   ends = book.ends.now;

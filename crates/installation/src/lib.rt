@@ -1,5 +1,7 @@
 //! An installation: a book, a fabric, drawn plans and at most one player; and a call that makes any of the nine calls on it, in
 //! any order, with the promise over them in its contract.
+#![tactic(auto)]
+
 mod call;
 mod drawing;
 mod performing;

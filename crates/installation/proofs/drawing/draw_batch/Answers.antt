@@ -1,4 +1,4 @@
-use Rattle.std.proofs.Common.{◌≡◌, ℕ, ◌-◌, true, false, List, length, take, drop, set, Some, Ok, Err, Option, sym, refl, ap, ◌∙◌, subst, ap₂}
+use Rattle.std.proofs.Common.{◌≡◌, ℕ, ◌-◌, true, false, List, length, take, drop, set, Some, Option, sym, refl, ap, ◌∙◌, subst, ap₂}
 use borrow.Rule.Slice.PartMut.{put_mid, put_same}
 use Rattle.faults.specs.declared.OpenFault.{OpenFault}
 use Rattle.plans.specs.Network.{least_tree, plan}
@@ -8,11 +8,11 @@ use Rattle.installation.specs.Hands.{hand, may_draw}
 use Rattle.installation.proofs.Held.{may-slot, draw-waits, draw-makes, draw-fails, cut-is, put_is}
 use Rattle.installation.proofs.drawing.draw_batch.Goals as goal
 
-pub returns-then-not-may-draw : goal.returns-then-not-may-draw
-returns-then-not-may-draw g c =
+pub returns-then-not-may_draw : goal.returns-then-not-may_draw
+returns-then-not-may_draw g c =
     let may : may_draw c.args.batch (length c.args.changes.now) (length c.args.plans.now) c.args.book.now.refusal c.args.seat.now c.args.at ≡ false =
     subst (λ (o : Option OpenFault). may_draw c.args.batch (length c.args.changes.now) (length c.args.plans.now) o c.args.seat.now c.args.at ≡ false)
-    c.refusal.ensures (sym c.if-not-may-draw.ensures) in
+    c.refusal.ensures (sym c.if-not-may_draw.ensures) in
     record {
       made = λ f.
           draw-waits g.W.Ordered.side g.F.Fabric.carrying c.args.batch
@@ -23,7 +23,7 @@ returns-then-not-may-draw g c =
 pub bounds-plans-slot : goal.bounds-plans-slot
 bounds-plans-slot g c =
     may-slot c.args.batch (length c.args.changes.now) (length c.args.plans.now) c.refusal.result c.args.seat.now c.args.at
-    (sym c.if-not-may-draw.ensures)
+    (sym c.if-not-may_draw.ensures)
 
 pub returns-in-Ok : goal.returns-in-Ok
 returns-in-Ok g c =
@@ -37,13 +37,13 @@ returns-in-Ok g c =
     let cs = c.args.changes.now in
     let st = c.args.start.now in
     let en = c.args.entries.now in
-    let i = c.part-of-a in
-    let j = c.part-of-c in
+    let i = c.part_of-a in
+    let j = c.part_of-c in
     let own = take (b.to - b.from) (drop b.from cs) in
     let ws = cut-is (length ps) b.slot i.result.0 i.result.1 st i.ensures.from i.ensures.to in
     let we = cut-is (length ps) b.slot j.result.0 j.result.1 en j.ensures.from j.ensures.to in
     let may : may_draw b (length cs) (length ps) book.refusal c.args.seat.now c.args.at ≡ true =
-    subst (λ (o : Option OpenFault). may_draw b (length cs) (length ps) o c.args.seat.now c.args.at ≡ true) c.refusal.ensures (sym c.if-not-may-draw.ensures) in
+    subst (λ (o : Option OpenFault). may_draw b (length cs) (length ps) o c.args.seat.now c.args.at ≡ true) c.refusal.ensures (sym c.if-not-may_draw.ensures) in
     record {
       made = λ f.
           let h = hand book ps cs st en (length c.args.work.now) c.args.seat.now c.args.at f in
@@ -72,13 +72,13 @@ returns-in-Err g c =
     let cs = c.args.changes.now in
     let st = c.args.start.now in
     let en = c.args.entries.now in
-    let i = c.part-of-a in
-    let j = c.part-of-c in
+    let i = c.part_of-a in
+    let j = c.part_of-c in
     let own = take (b.to - b.from) (drop b.from cs) in
     let ws = cut-is (length ps) b.slot i.result.0 i.result.1 st i.ensures.from i.ensures.to in
     let we = cut-is (length ps) b.slot j.result.0 j.result.1 en j.ensures.from j.ensures.to in
     let may : may_draw b (length cs) (length ps) book.refusal c.args.seat.now c.args.at ≡ true =
-    subst (λ (o : Option OpenFault). may_draw b (length cs) (length ps) o c.args.seat.now c.args.at ≡ true) c.refusal.ensures (sym c.if-not-may-draw.ensures) in
+    subst (λ (o : Option OpenFault). may_draw b (length cs) (length ps) o c.args.seat.now c.args.at ≡ true) c.refusal.ensures (sym c.if-not-may_draw.ensures) in
     record {
       made = λ f.
           let h = hand book ps cs st en (length c.args.work.now) c.args.seat.now c.args.at f in

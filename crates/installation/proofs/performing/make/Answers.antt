@@ -1,4 +1,4 @@
-use Rattle.std.proofs.Common.{◌≡◌, ◌-◌, length, get_or, take, drop, None, sym, refl, ap, ◌∙◌, subst}
+use Rattle.std.proofs.Common.{◌-◌, length, get_or, take, drop, None, sym, refl, ap, ◌∙◌, subst}
 use Rattle.player.specs.Plan.{Sheet}
 use Rattle.promise.specs.declared.answer.Answer.{Answer}
 use Rattle.installation.specs.declared.call.Call.{Call}
@@ -14,8 +14,8 @@ returns-in-Open g c =
     let carrying = g.F.Fabric.carrying in
     let h = hand c.args.book.now c.args.plans.now c.args.changes.now c.args.start.now c.args.entries.now (length c.args.work.now) c.args.seat c.args.slot c.args.fabric.now in
     record {
-      made = subst (λ (z : Call). Makes side carrying h z c.open-answer.result h) (sym c.in-Open.is)
-          (subst (λ (a : Answer). Makes side carrying h Open a h) (sym (c.open-answer.ensures ∙ ap open_answer c.refusal.ensures)) (open-again side carrying h));
+      made = subst (λ (z : Call). Makes side carrying h z c.open_answer.result h) (sym c.in-Open.is)
+          (subst (λ (a : Answer). Makes side carrying h Open a h) (sym (c.open_answer.ensures ∙ ap open_answer c.refusal.ensures)) (open-again side carrying h));
       lent = (refl, refl);
       same = refl {a = g.F.Fabric.shape c.args.fabric.now};
     }
@@ -26,11 +26,11 @@ returns-in-Draw g c =
     let carrying = g.F.Fabric.carrying in
     let f = c.args.fabric.now in
     let h = hand c.args.book.now c.args.plans.now c.args.changes.now c.args.start.now c.args.entries.now (length c.args.work.now) c.args.seat c.args.slot f in
-    let q = c.draw-batch-answer.new in
+    let q = c.draw_batch-answer.new in
     let k = hand q.book q.plans c.args.changes.now q.start q.entries (length q.work) c.args.seat c.args.slot f in
     record {
-      made = subst (λ (z : Call). Makes side carrying h z c.draw-batch-answer.result k) (sym c.in-Draw.is) (c.draw-batch-answer.ensures.made f);
-      lent = c.draw-batch-answer.ensures.lent;
+      made = subst (λ (z : Call). Makes side carrying h z c.draw_batch-answer.result k) (sym c.in-Draw.is) (c.draw_batch-answer.ensures.made f);
+      lent = c.draw_batch-answer.ensures.lent;
       same = refl {a = g.F.Fabric.shape f};
     }
 
@@ -39,16 +39,16 @@ returns-in-None g c =
     let h = hand c.args.book.now c.args.plans.now c.args.changes.now c.args.start.now c.args.entries.now (length c.args.work.now) c.args.seat c.args.slot c.args.fabric.now in
     record {
       made = play-waits g.W.Ordered.side g.F.Fabric.carrying c.args.call h (to-player c.args.call c.in_default.not-Open c.in_default.not-Draw)
-          (sym (ap (λ n. get_or c.args.plans.now n None) c.place-of-at.ensures) ∙ sym c.in-None.ensures);
+          (sym (ap (λ n. get_or c.args.plans.now n None) c.place_of-at.ensures) ∙ sym c.in-None.ensures);
       lent = (refl, refl);
       same = refl {a = g.F.Fabric.shape c.args.fabric.now};
     }
 
-pub part-of-a-requires : goal.part-of-a-requires
-part-of-a-requires g c = some-within c.args.plans.now c.place-of-at.result c.in-Some.counts (sym c.in-Some.ensures)
+pub part_of-a-requires : goal.part_of-a-requires
+part_of-a-requires g c = some-within c.args.plans.now c.place_of-at.result c.in-Some.counts (sym c.in-Some.ensures)
 
-pub part-of-c-requires : goal.part-of-c-requires
-part-of-c-requires g c = some-within c.args.plans.now c.place-of-at.result c.in-Some.counts (sym c.in-Some.ensures)
+pub part_of-c-requires : goal.part_of-c-requires
+part_of-c-requires g c = some-within c.args.plans.now c.place_of-at.result c.in-Some.counts (sym c.in-Some.ensures)
 
 pub returns-in-Some : goal.returns-in-Some
 returns-in-Some g c =
@@ -57,10 +57,10 @@ returns-in-Some g c =
     let en = c.args.entries.now in
     let h = hand c.args.book.now ps c.args.changes.now st en (length c.args.work.now) c.args.seat c.args.slot c.args.fabric.now in
     let r = c.play-next.result in
-    let i = c.part-of-a in
-    let j = c.part-of-c in
-    let at = c.place-of-at.result in
-    let k = hand c.args.book.now ps c.args.changes.now st en (length c.args.work.now) r.seat c.slot-after.result c.play-next.new.fabric in
+    let i = c.part_of-a in
+    let j = c.part_of-c in
+    let at = c.place_of-at.result in
+    let k = hand c.args.book.now ps c.args.changes.now st en (length c.args.work.now) r.seat c.slot_after.result c.play-next.new.fabric in
     let d = c.in-Some.counts in
     let s : Sheet = record {
       n = d.n;
@@ -72,11 +72,11 @@ returns-in-Some g c =
     let tp = to-player c.args.call c.in_default.not-Open c.in_default.not-Draw in
     record {
       made = play-makes g.W.Ordered.side g.F.Fabric.carrying c.args.call r.answer h k s d tp
-          (sym (ap (λ n. get_or ps n None) c.place-of-at.ensures) ∙ sym c.in-Some.ensures) refl refl refl
-          (cut-is (length ps) at i.result.0 i.result.1 st i.ensures.from i.ensures.to ∙ ap (λ n. part (width (length ps) st) n st) c.place-of-at.ensures)
-          (cut-is (length ps) at j.result.0 j.result.1 en j.ensures.from j.ensures.to ∙ ap (λ n. part (width (length ps) en) n en) c.place-of-at.ensures)
+          (sym (ap (λ n. get_or ps n None) c.place_of-at.ensures) ∙ sym c.in-Some.ensures) refl refl refl
+          (cut-is (length ps) at i.result.0 i.result.1 st i.ensures.from i.ensures.to ∙ ap (λ n. part (width (length ps) st) n st) c.place_of-at.ensures)
+          (cut-is (length ps) at j.result.0 j.result.1 en j.ensures.from j.ensures.to ∙ ap (λ n. part (width (length ps) en) n en) c.place_of-at.ensures)
           (record { n = refl; ends = refl; links = refl; tree = refl; refusal = refl; plans = refl; changes = refl; start = refl; entries = refl; work = refl })
-          c.slot-after.ensures (c.play-next.ensures.turn tp c.args.slot);
+          c.slot_after.ensures (c.play-next.ensures.turn tp c.args.slot);
       lent = (refl, refl);
       same = c.play-next.ensures.same;
     }

@@ -1,6 +1,6 @@
 use Rattle.std.proofs.Common.{◌≡◌, ℕ, ◌+◌, ◌-◌, ◌<◌, ◌≤◌, List, ◌∷◌, ◌++◌, length, take, drop, sym, refl, ap, ◌∙◌, subst, arith}
 use borrow.Rule.Slice.PartMut.{put_mid}
-use Rattle.std.proofs.lemmas.List.{take_all, length-map, length-set, drop-map}
+use Rattle.std.proofs.lemmas.List.{take_all, length-map, drop-map}
 use Rattle.std.proofs.lemmas.Slice.{between_to_end}
 use Rattle.promise.specs.declared.answer.Answer.{Answer}
 use Rattle.promise.specs.Calls.{none}
@@ -8,7 +8,6 @@ use Rattle.promise.specs.Installation.{new}
 use Rattle.promise.proofs.Keeps.{never-broken}
 use Rattle.installation.specs.declared.call.Call.{Call}
 use Rattle.installation.specs.declared.call.Line.{Line}
-use Rattle.installation.specs.declared.seat.Seat.{Seat}
 use Rattle.installation.specs.declared.seat.Seat.TheVariants.{Free}
 use Rattle.installation.specs.Perform.{lent, fresh, calls, answers, plan_at, start_in, entries_in, Turns, Seated}
 use Rattle.installation.specs.Hands.{hand, first_answer, Leads}
@@ -76,8 +75,8 @@ returns g c =
     let in0 : at < length old = let p = c.wait-at.ensures.within in let z = c.if-at-log.false in let u = c.wait-at.auto.log in omega arith in
     let in1 : at < length cs = let n = length-map old (λ (x : Line). x.call) in omega arith in
     let in2 : at < length log = let u = c.wait-at.auto.log in omega arith in
-    let a = c.first-answer.result in
-    let a-is : a ≡ first_answer b.refusal = c.first-answer.ensures ∙ ap first_answer c.refusal.ensures in
+    let a = c.first_answer.result in
+    let a-is : a ≡ first_answer b.refusal = c.first_answer.ensures ∙ ap first_answer c.refusal.ensures in
     let written = noted log at a in
     let long = length written - (at + 1) in
     let same-calls : calls written ≡ cs = calls-noted log at a in2 ∙ c.wait-at.ensures.log in

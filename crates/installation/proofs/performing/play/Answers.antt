@@ -11,10 +11,10 @@ pub returns-in-Lay : goal.returns-in-Lay
 returns-in-Lay g c = record {
   turn = λ _ slot.
       subst (λ (z : Call).
-      Plays g.W.Ordered.side g.F.Fabric.carrying (sheet c.args.plan.now) (place_of z c.args.seat slot) z c.lay-plan.result.answer c.args.seat c.args.fabric.now
-      c.lay-plan.result.seat c.lay-plan.new.fabric) (sym c.in-Lay.is) (c.lay-plan.ensures.turn (place_of (Lay c.in-Lay.field-0) c.args.seat slot) c.in-Lay.field-0
+      Plays g.W.Ordered.side g.F.Fabric.carrying (sheet c.args.plan.now) (place_of z c.args.seat slot) z c.lay_plan.result.answer c.args.seat c.args.fabric.now
+      c.lay_plan.result.seat c.lay_plan.new.fabric) (sym c.in-Lay.is) (c.lay_plan.ensures.turn (place_of (Lay c.in-Lay.field-0) c.args.seat slot) c.in-Lay.field-0
       (λ e. sym (ap (λ (z : Seat). place_of (Lay c.in-Lay.field-0) z slot) e)));
-  same = c.lay-plan.ensures.same;
+  same = c.lay_plan.ensures.same;
 }
 
 pub returns-in-Forward : goal.returns-in-Forward
