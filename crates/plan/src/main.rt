@@ -1,5 +1,7 @@
 //! The text tool: reads a plant from standard input and prints its plan, or the refusal. Ends with status 0 for a plan and
 //! 1 for a refusal.
+#![tactic(auto)]
+
 use anyhow::anyhow;
 use plan_lines::{
     EntryLine, Refusal, TreeLine, WorkLine, draw_refusal, open_refusal, text_refusal,

@@ -1,5 +1,5 @@
 -- The whole text.
-use Rattle.std.proofs.Common.{◌≡◌, ℕ, ◌<◌, ◌≤◌, Bool, true, false, cond, ltb, List, [], ◌∷◌, length, Ok, Err, Result, sym, refl, ap, ◌∙◌}
+use Rattle.std.proofs.Common.{◌≡◌, ℕ, ◌<◌, ◌≤◌, true, false, List, [], ◌∷◌, length, Ok, Err, sym, ap, ◌∙◌}
 use Rattle.std.proofs.lemmas.Bool.{cond-true, cond-false, lt-ltb, le-ltb}
 use Rattle.weights.specs.declared.cost.Cost.{Cost}
 use Rattle.weights.specs.Made.{cost_from}
@@ -8,7 +8,7 @@ use Rattle.faults.specs.declared.TextFault.TheVariants.{Malformed, OutOfPlace, O
 use Rattle.plant_lines.specs.declared.item.Item.{Item}
 use Rattle.plant_tables.specs.File.{then}
 use Rattle.plant_lines.specs.Line.{line_at}
-use Rattle.plant_text.specs.Plant.{Whole, file_of, lines, opened, lacks_head}
+use Rattle.plant_text.specs.Plant.{file_of, lines, opened, lacks_head}
 use Rattle.text_words.specs.Split.{parts}
 use Rattle.text_words.proofs.Cutting.{parts-some}
 

@@ -1,4 +1,6 @@
 //! The text of a plant: bytes to tables, or the refusal.
+#![tactic(auto)]
+
 mod plant;
 mod reader;
 

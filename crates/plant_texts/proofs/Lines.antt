@@ -1,23 +1,20 @@
 -- A line that was read, written out again.
-use Rattle.std.proofs.Common.{◌≡◌, ℕ, Bool, true, false, cond, eqb, ◌⊎◌, List, [], ◌∷◌, ◌++◌, Some, None, Ok, Err, codes, decimal, Option, Result, sym, refl, ap, ◌∙◌, inl, inr, ⊎_elim, arith}
+use Rattle.std.proofs.Common.{◌≡◌, ℕ, cond, eqb, List, [], ◌∷◌, ◌++◌, Some, None, Ok, codes, Option, sym, refl, ap, ◌∙◌, ⊎_elim, arith}
 use Rattle.std.proofs.lemmas.List.{append-nil}
 use Rattle.std.proofs.lemmas.Bool.{cases_Bool, eqb-true}
-use Rattle.std.specs.Option.{option_map, ok_or}
-use Rattle.faults.specs.declared.TextFault.{TextFault}
+use Rattle.std.specs.Option.{option_map}
 use Rattle.faults.specs.declared.TextFault.TheVariants.{Malformed}
-use Rattle.network.specs.declared.types.Change.{Change}
 use Rattle.network.specs.declared.types.Change.TheVariants as change
 use Rattle.plant_lines.specs.declared.item.Item.{Item}
 use Rattle.plant_lines.specs.declared.item.Item.TheVariants as item
 use Rattle.plant_lines.specs.declared.item.Kind.TheVariants as kind
 use Rattle.text_words.specs.declared.token.Letter.{Letter}
 use Rattle.text_words.specs.declared.token.Letter.TheVariants.{Costs, Classes, Link, Set, Remove, Flip}
-use Rattle.plant_lines.specs.Line.{before, numbers, only_of, link_of, set_of, item_of, item_from, shape, line_at}
+use Rattle.plant_lines.specs.Line.{before, numbers, only_of, item_of, item_from, shape, line_at}
 use Rattle.text_words.specs.Letter.{letter_of, letter_word}
 use Rattle.text_words.specs.Number.{numeral}
 use Rattle.plan_lines.specs.Output.{spaced}
 use Rattle.text_words.specs.Split.{parts}
-use Rattle.text_words.proofs.Cutting.{parts-some}
 use Rattle.plant_lines.proofs.Telling.{some-ok}
 use Rattle.plant_texts.specs.Laws.{joined_by}
 use Rattle.plant_texts.proofs.Writing.{parts_join, read-write}

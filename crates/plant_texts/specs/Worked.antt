@@ -1,16 +1,15 @@
 -- Worked texts.
-use Rattle.std.specs.Prelude.{◌≡◌, ℕ, true, List, [], ◌∷◌, ◌++◌, Ok, Err, codes, Result}
+use Rattle.std.specs.Prelude.{◌≡◌, ℕ, true, List, [], ◌∷◌, ◌++◌, Ok, Err, codes}
 use Rattle.faults.specs.declared.DrawFault.TheVariants.{Parted}
 use Rattle.faults.specs.declared.OpenFault.TheVariants.{NodeCount, EndOutside, NotJoined}
 use Rattle.faults.specs.declared.TextFault.{TextFault}
 use Rattle.faults.specs.declared.TextFault.TheVariants.{Malformed, OutOfPlace, OverCount}
 use Rattle.network.specs.declared.types.Change.TheVariants.{Set, Remove, Flip}
-use Rattle.network.specs.declared.types.Ends.{Ends}
 use Rattle.network.specs.declared.types.LinkState.{LinkState}
 use Rattle.weights.specs.declared.cost.Cost.{Cost}
 use Rattle.plant_lines.specs.Line.{ends_of}
 use Rattle.plan_lines.specs.Output.{tree_line, entry_line, work_line}
-use Rattle.plant_text.specs.Plant.{Whole, costs, file_of}
+use Rattle.plant_text.specs.Plant.{costs, file_of}
 use Rattle.plan_lines.specs.Refusal.{refusal_line, text_refusal, open_refusal, draw_refusal}
 
 -- a line and its end

@@ -1,4 +1,6 @@
 //! Worked texts and laws of the text format, and tests of it.
+#![tactic(auto)]
+
 ghost use Rattle.plant_texts.specs.Laws.{ReadsBack, PartsJoin, NumbersOneWay};
 ghost use Rattle.plant_texts.specs.Worked.{FourSwitches, RefusedTexts, PrintedLines};
 

@@ -1,4 +1,5 @@
 //! The player at work on a link map, with the plan of a plant of four switches.
+#![tactic(auto)]
 
 #[cfg(test)]
 mod tests {

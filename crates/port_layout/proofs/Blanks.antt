@@ -34,7 +34,7 @@ joins_of n k e h =
     let c = passed (eqb e.a.0 e.b.0) _ _ b.1 in
     let p = is-node n e.a a.0 in
     let q = is-node n e.b b.0 in
-    record { first-is = p.0; first-in = p.1; second_is = q.0; second-in = q.1; apart = λ s. both_ways (eqb e.a.0 e.b.0) c.0 (eq-eqb e.a.0 e.b.0 s) }
+    record { first-is = p.0; first-in = p.1; second-is = q.0; second-in = q.1; apart = λ s. both_ways (eqb e.a.0 e.b.0) c.0 (eq-eqb e.a.0 e.b.0 s) }
 
 all_join : (n k : ℕ) (es : List Ends) → first_end_fault n k es ≡ None → (i : ℕ) → i < length es → Joins n (ends_of es i)
 all_join n k [] h i l = absurd (omega arith)
@@ -93,7 +93,7 @@ module _ (n : ℕ) (es : List Ends) (bs : List ℕ) (g : Granted n es (length bs
     room = omega (arith, g.room, length-blanked (table_size n (length es)) bs g.room);
     joins = js;
     sound = settled n (2 * length es) (owner es) (word (blanked (table_size n (length es)) bs)) (λ _. []) clean-kept (owned_by n es js);
-    paired = λ i h. clean-first i h ∙ sym (let j = js i h in ap (has (2 * i + 2)) (clean-chain (second_head es i) (omega (arith, j.second_is, j.second-in))));
+    paired = λ i h. clean-first i h ∙ sym (let j = js i h in ap (has (2 * i + 2)) (clean-chain (second_head es i) (omega (arith, j.second-is, j.second-in))));
   }
 
   blank-flags : flags n es (blanked (table_size n (length es)) bs) ≡ replicate (length es) false

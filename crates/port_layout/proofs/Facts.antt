@@ -54,7 +54,7 @@ joins-fact : (n : ℕ) (e : Ends) → IsProp (Joins n e)
 joins-fact n e a b = λ i. record {
   first-is = at_most _ _ a.first-is b.first-is i;
   first-in = at_most _ _ a.first-in b.first-in i;
-  second_is = at_most _ _ a.second_is b.second_is i;
+  second-is = at_most _ _ a.second-is b.second-is i;
   second-in = at_most _ _ a.second-in b.second-in i;
   apart = λ s. none (a.apart s) (b.apart s) i;
 }

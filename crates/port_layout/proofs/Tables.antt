@@ -44,7 +44,7 @@ owned_by n es js r r0 rm =
     let i : (r - 1) / 2 < length es = omega arith in
     let j = js ((r - 1) / 2) i in
     let a : first_head es ((r - 1) / 2) < n = omega (arith, j.first-is, j.first-in) in
-    let b : second_head es ((r - 1) / 2) < n = omega (arith, j.second_is, j.second-in) in
+    let b : second_head es ((r - 1) / 2) < n = omega (arith, j.second-is, j.second-in) in
     elim (eqb (r % 2) 1) as (λ c. cond c (first_head es ((r - 1) / 2)) (second_head es ((r - 1) / 2)) < n) [ true ↦ a | false ↦ b ]
 
 module _ (n : ℕ) (es : List Ends) (bs : List ℕ) (t : Table n es bs) where
@@ -108,7 +108,7 @@ module _ (n : ℕ) (es : List Ends) (bs : List ℕ) (t : Table n es bs) where
     first_under j l = let g = t.joins j l in omega (arith, g.first-is, g.first-in)
 
     second-under : (j : ℕ) → j < length es → second_head es j < n
-    second-under j l = let g = t.joins j l in omega (arith, g.second_is, g.second-in)
+    second-under j l = let g = t.joins j l in omega (arith, g.second-is, g.second-in)
 
     pub turned : linked n es cs i ≡ b
     turned =

@@ -38,7 +38,7 @@ flags n es bs = map (linked n es bs) (range_with_len 0 (length es))
 pub record Joins (n : ℕ) (e : Ends) : Type 0 where
   pub first-is : 0 < e.a.0
   pub first-in : e.a.0 ≤ n
-  pub second_is : 0 < e.b.0
+  pub second-is : 0 < e.b.0
   pub second-in : e.b.0 ≤ n
   pub apart : e.a.0 ≡ e.b.0 → ⊥
 

@@ -16,29 +16,29 @@ loop-front-init g c = (
   c.requires.short,
 )
 
-pub returns-in-err-item : goal.returns-in-err-item
-returns-in-err-item g c =
-    mapped-err seen _ _ _ c.from-residual.ensures.1
-    (body-line g.W.Weight.made (seen c.loop-front.tables) c.loop-front.line _ _ _ c.in-Some.ensures.split _ c.in-err-item.ensures.told ∙ c.loop-front.invariant.1)
+pub returns-in_err-item : goal.returns-in_err-item
+returns-in_err-item g c =
+    mapped-err seen _ _ _ c.from_residual.ensures.1
+    (body-line g.W.Weight.made (seen c.loop-front.tables) c.loop-front.line _ _ _ c.in-Some.ensures.split _ c.in_err-item.ensures.told ∙ c.loop-front.invariant.1)
 
-pub returns-in-err-place : goal.returns-in-err-place
-returns-in-err-place g c =
-    mapped-err seen _ _ _ c.from-residual-in-err-place.ensures.1
-    (body-place g.W.Weight.made (seen c.loop-front.tables) c.loop-front.line _ _ _ c.in-Some.ensures.split _ _ c.in-ok-item.ensures.told c.in-err-place.ensures.told ∙ c.loop-front.invariant.1)
+pub returns-in_err-place : goal.returns-in_err-place
+returns-in_err-place g c =
+    mapped-err seen _ _ _ c.from_residual-in_err-place.ensures.1
+    (body-place g.W.Weight.made (seen c.loop-front.tables) c.loop-front.line _ _ _ c.in-Some.ensures.split _ _ c.in_ok-item.ensures.told c.in_err-place.ensures.told ∙ c.loop-front.invariant.1)
 
 pub loop-front-preserved : goal.loop-front-preserved
 loop-front-preserved g c = (
   omega (arith, c.in-Some.ensures.sizes),
-  body_more g.W.Weight.made (seen c.loop-front.tables) c.loop-front.line _ _ _ c.in-Some.ensures.split _ _ c.in-ok-item.ensures.told c.in-ok-place.ensures.told ∙ c.loop-front.invariant.1,
+  body_more g.W.Weight.made (seen c.loop-front.tables) c.loop-front.line _ _ _ c.in-Some.ensures.split _ _ c.in_ok-item.ensures.told c.in_ok-place.ensures.told ∙ c.loop-front.invariant.1,
   c.place.ensures.room,
-  omega (arith, c.read-line.ensures.room),
+  omega (arith, c.read_line.ensures.room),
   omega (arith, c.in-Some.ensures.sizes),
 )
 
-pub returns-then-not-is-empty : goal.returns-then-not-is-empty
-returns-then-not-is-empty g c =
-    body_open g.W.Weight.made (seen c.loop-front.tables) c.loop-front.line _ c.in_default.ensures (omega (arith, false-eqb _ 0 c.if-not-is-empty.ensures)) ∙ c.loop-front.invariant.1
+pub returns-then-not-is_empty : goal.returns-then-not-is_empty
+returns-then-not-is_empty g c =
+    body_open g.W.Weight.made (seen c.loop-front.tables) c.loop-front.line _ c.in_default.ensures (omega (arith, false-eqb _ 0 c.if-not-is_empty.ensures)) ∙ c.loop-front.invariant.1
 
 pub returns : goal.returns
 returns g c =
-    body_end g.W.Weight.made (seen c.loop-front.tables) c.loop-front.line _ c.in_default.ensures (true-eqb _ 0 c.if-not-is-empty.ensures) ∙ c.loop-front.invariant.1
+    body_end g.W.Weight.made (seen c.loop-front.tables) c.loop-front.line _ c.in_default.ensures (true-eqb _ 0 c.if-not-is_empty.ensures) ∙ c.loop-front.invariant.1

@@ -23,7 +23,7 @@ push-requires c =
     )
 
 pub overflow_sub-link-2 : goal.overflow_sub-link-2
-overflow_sub-link-2 c = (c.requires.table.joins c.args.i c.requires.within).second_is
+overflow_sub-link-2 c = (c.requires.table.joins c.args.i c.requires.within).second-is
 
 pub push-requires-2 : goal.push-requires-2
 push-requires-2 c =
@@ -34,7 +34,7 @@ push-requires-2 c =
         omega arith,
         (
           omega (arith, t.links, c.requires.within),
-          omega (arith, j.second_is, j.second-in),
+          omega (arith, j.second-is, j.second-in),
         ),
       ),
     )

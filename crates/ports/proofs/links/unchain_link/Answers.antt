@@ -22,7 +22,7 @@ take_out-requires c =
     }
 
 pub overflow_sub-link-2 : goal.overflow_sub-link-2
-overflow_sub-link-2 c = (c.requires.table.joins c.args.i c.requires.within).second_is
+overflow_sub-link-2 c = (c.requires.table.joins c.args.i c.requires.within).second-is
 
 pub take_out-requires-2 : goal.take_out-requires-2
 take_out-requires-2 c =
@@ -37,7 +37,7 @@ take_out-requires-2 c =
     record {
       room = omega (arith, t.room, c.take_out.auto.bytes);
       small = subst (λ z. (p : ℕ) → p < n + 2 * length es → word z p ≤ 2 * length es) (sym e) (half-small n es bs t i c.requires.within on);
-      starts = omega (arith, j.second_is, j.second-in);
+      starts = omega (arith, j.second-is, j.second-in);
       named = (omega arith, omega (arith, c.requires.within));
       holds = subst (λ z. has (2 * i + 2) (chain n (word z) (2 * length es) (second_head es i)) ≡ true) (sym e) (half-holds n es bs t i c.requires.within on);
     }
