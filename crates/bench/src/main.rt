@@ -1,5 +1,7 @@
 //! Draws long batches at three sizes and prints the work count beside its bound and a sum over the entries. With the
 //! argument `time` it also prints how long each draw took.
+#![tactic(auto)]
+
 use network::{Change, Ends, LinkState, Node};
 use planner::{Book, Tables};
 use std::alloc::{AllocError, Global};

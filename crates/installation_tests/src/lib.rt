@@ -1,4 +1,5 @@
 //! An installation at work on a link map: the plant of four switches, with slots for two plans.
+#![tactic(auto)]
 
 #[cfg(test)]
 mod tests {

@@ -1,5 +1,7 @@
 //! A buyer's own weights and hardware behind the two interfaces: rates, of which the larger is before, and a switch that keeps
 //! its links as bits in words. Draws a plan, plays it, and draws a second one on the way.
+#![tactic(auto)]
+
 mod rates;
 
 use fabric_tests::BitMap;
