@@ -3,7 +3,7 @@ use faults::WeightFault;
 use std::alloc::{AllocError, AllocFailed};
 use std::io;
 
-#[derive(Drop)]
+#[derive(Debug, Drop)]
 pub enum Failure {
     Memory,
     Printing,

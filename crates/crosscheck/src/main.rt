@@ -1,6 +1,8 @@
 //! Compares the planner and the player with a second, simple implementation: on plants worked out by hand, at every
 //! refusal, on made-up networks and batches, and at the largest sizes. Prints what was compared, and how often the two
 //! disagreed.
+#![tactic(auto)]
+
 mod cases;
 mod compare;
 mod failure;

@@ -1,5 +1,7 @@
 //! Reads a plant from standard input, draws its changes and plays the plan forward to its end and back, first on a link map
 //! and then on a port table. Prints each call, what it answered, what left or came, and which links carry after it.
+#![tactic(auto)]
+
 use anyhow::anyhow;
 use fabrics::{Fabric, LinkMap};
 use installation::{Answer, Batch, Call, Line, Seat, State, resume};

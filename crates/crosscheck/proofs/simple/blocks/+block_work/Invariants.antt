@@ -2,5 +2,5 @@
 use Rattle.std.proofs.Common.{length}
 use Rattle.crosscheck.proofs.simple.blocks.+block_work.Given as goal
 
-abbrev pub decreases-block-work : goal.decreases-block-work
-decreases-block-work l = length l.changes.now
+abbrev pub decreases-block_work : goal.decreases-block_work
+decreases-block_work l = length l.changes.now
