@@ -18,6 +18,8 @@ WORDS = {"getD": "get_or"}
 TYPES = re.compile(r"[A-Z][a-z]+(?:-[a-z]+)+")
 CAMEL = re.compile(r"[a-z][a-z0-9_]*[A-Z][A-Za-z0-9_]*")
 NAME = re.compile(r"(?<![\w'-])[A-Za-z][\w'-]*")
+# Texts of sources stay as they are.
+STRING = re.compile(r'("(?:[^"\\]|\\.)*")')
 DECLARED = re.compile(r"^(?:(?:abbrev|unfoldable|pub|data|record|ruleset) )+([A-Z][a-z]+(?:-[a-z]+)+)(?= )", re.M)
 
 
@@ -49,11 +51,12 @@ def spelled(name, types):
 def main():
     texts = {p: open(p, encoding="utf-8").read() for p in files(".")}
     types = {m for p, t in texts.items() if p.endswith(".antt") for m in DECLARED.findall(t)}
-    before = {p: set(NAME.findall(t)) for p, t in texts.items()}
+    before = {p: set(NAME.findall(STRING.sub("", t))) for p, t in texts.items()}
     standing = set().union(*before.values())
     turned = {n: spelled(n, types) for n in standing if spelled(n, types) != n}
     for path, text in texts.items():
-        new = NAME.sub(lambda m: turned.get(m[0], m[0]), text)
+        parts = STRING.split(text) if path.endswith(".rt") else [text]
+        new = "".join(p if p[:1] == '"' else NAME.sub(lambda m: turned.get(m[0], m[0]), p) for p in parts)
         if new != text:
             with open(path, "w", encoding="utf-8") as f:
                 f.write(new)
