@@ -151,6 +151,23 @@ fn counts_are_kept(rt: HostRuntime) -> Result<(), Fail> {
         ("N 2\n", "T 1\n", 129, "REFUSED 3 0 130"),
         ("", "x", 4096, "REFUSED 1 0 1"),
         ("", "x", 4097, "REFUSED 3 0 0"),
+    ];
+    for (first, more, times, told) in cases {
+        let text = repeated(rt.alloc(), first, more, times)?;
+        assert_eq!(rt;
+            answer(rt.alloc(), text.as_bytes())?.as_str(),
+            told,
+            "{}",
+            told
+        );
+    }
+    Ok(())
+}
+
+/// A text of line ends: the byte count is looked at before any line.
+#[test]
+fn line_ends_are_counted(rt: HostRuntime) -> Result<(), Fail> {
+    let cases = [
         ("N 2\n", "\n", 4092, "REFUSED 1 0 2"),
         ("N 2\n", "\n", 4093, "REFUSED 3 0 0"),
     ];
