@@ -4,6 +4,7 @@ use network::Ends;
 use planner::{Book, Tables};
 use std::alloc::{AllocError, Global};
 use std::process::Abort;
+use std::test::Fail;
 use weights::Cost;
 
 /// The ends of m links among 4,096 nodes: rings over all nodes with steps of 1, 2, 3 and so on.

@@ -4,6 +4,7 @@ use faults::{Fault, Layer};
 use network::{Change, LinkState};
 use planner::{Book, Tables};
 use std::process::Abort;
+use std::test::Fail;
 use weights::{Class, Cost};
 
 #[test]

@@ -4,6 +4,7 @@ use faults::Layer;
 use network::{Change, Ends, LinkState};
 use planner::{Book, Tables};
 use std::process::Abort;
+use std::test::Fail;
 use weights::Cost;
 
 /// Checks that a network of present links of weight 5 is not opened, and that its tables stand.

@@ -2,6 +2,7 @@
 use crate::helpers::*;
 use network::{Change, LinkState};
 use std::process::Abort;
+use std::test::Fail;
 use weights::Cost;
 
 /// The plan of three changes of parallel links between two nodes.
