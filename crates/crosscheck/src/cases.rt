@@ -1,6 +1,6 @@
 //! Cases written by hand.
 use crate::simple::forecast::{Case, Lent};
-use crate::simple::network::{Action, Change, Link, Weight};
+use crate::simple::records::{Action, Change, Link, Weight};
 use std::alloc::{AllocError, Global};
 
 /// A present link of a class.

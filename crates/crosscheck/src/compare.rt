@@ -4,7 +4,7 @@ use crate::loan::{BLANK, Kind, Loan};
 use crate::play::play;
 use crate::simple::forecast;
 use crate::simple::forecast::{Case, Lent, Plan, Refusal, Stop};
-use crate::simple::network::Change;
+use crate::simple::records::Change;
 use crate::tally::{Finding, Tally};
 use faults::{DrawFault, Fault, Layer};
 use planner::Drawn;

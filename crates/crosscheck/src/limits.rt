@@ -2,7 +2,7 @@
 use crate::cases::{case, flip, four_switches, link, remove, set};
 use crate::failure::Failure;
 use crate::known::answer_is;
-use crate::simple::network::{Change, Link};
+use crate::simple::records::{Change, Link};
 use crate::tally::Tally;
 use std::alloc::{AllocError, Global};
 use weights::Cost;

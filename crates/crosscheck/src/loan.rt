@@ -1,7 +1,7 @@
 //! The tables that are lent to the planner, and its calls on them.
 use crate::failure::Failure;
 use crate::simple::forecast::Case;
-use crate::simple::network::{Action, Change, Link, Weight};
+use crate::simple::records::{Action, Change, Link, Weight};
 use faults::{DrawFault, OpenFault};
 use network::{Ends, LinkState, Node};
 use planner::{Book, Drawn, Tables};

@@ -1,6 +1,6 @@
 //! Made-up networks and batches, the same in every run.
 use crate::simple::forecast::{Case, Lent, Table};
-use crate::simple::network::{Action, Change, Link, Weight, apply, index};
+use crate::simple::records::{Action, Change, Link, Weight, apply, index};
 use crate::simple::tree::joined;
 use std::alloc::{AllocError, Global};
 

@@ -3,7 +3,7 @@ use crate::cases::{absent, case, flip, four_switches, link, remove, set};
 use crate::failure::Failure;
 use crate::known::answer_is;
 use crate::simple::forecast::{Lent, Table};
-use crate::simple::network::Change;
+use crate::simple::records::Change;
 use crate::tally::{Finding, Tally};
 use faults::{Fault, Layer};
 use std::alloc::Global;

@@ -1,7 +1,7 @@
 //! A second planner, as plain as can be: it tries links in sorted order, keeps one label for each node, and works every
 //! tree out anew after each change. It has nothing from the planner that it is compared with.
-pub mod blocks;
 pub mod forecast;
-pub mod network;
 pub mod order;
+pub mod records;
 pub mod tree;
+pub mod work;

@@ -3,7 +3,7 @@
 #![tactic(auto)]
 
 mod call;
-mod drawing;
+mod draws;
 mod performing;
 mod seat;
 mod slots;

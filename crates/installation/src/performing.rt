@@ -7,7 +7,7 @@ ghost use Rattle.installation.specs.Hands.{hand, place_of, to_player, first_answ
 ghost use Rattle.installation.specs.Turns.{Plays};
 
 use crate::call::{Call, Line};
-use crate::drawing::draw_batch;
+use crate::draws::draw_batch;
 use crate::seat::{Seat, State, is_free};
 use crate::slots::{clear, part_of, plan_at};
 use crate::turns;

@@ -1,7 +1,7 @@
 //! What open and draw have to answer for a case.
-use crate::simple::blocks::work_count;
-use crate::simple::network::{Action, Change, Link, apply, index};
+use crate::simple::records::{Action, Change, Link, apply, index};
 use crate::simple::tree::{Forest, least_tree};
+use crate::simple::work::work_count;
 use std::alloc::{AllocError, AllocFailed, Global};
 
 /// How long the tables are that are lent. The ends list is as long as the list of links.

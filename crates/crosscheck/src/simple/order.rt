@@ -1,7 +1,7 @@
 //! Links in order, sorted by insertion.
 ghost use Rattle.std.specs.Prelude.{◌≤◌, length};
 
-use crate::simple::network::{Link, Weight};
+use crate::simple::records::{Link, Weight};
 use std::alloc::{AllocError, Global};
 
 /// A link of a graph: its number, and its ends in that graph.

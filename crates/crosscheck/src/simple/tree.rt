@@ -1,6 +1,6 @@
 //! The least forest of some links, and the least tree of a network.
-use crate::simple::network::{Link, index};
 use crate::simple::order::{Edge, Order, Ranked};
+use crate::simple::records::{Link, index};
 use std::alloc::{AllocError, Global};
 
 /// A label for each node. Nodes that are joined have one label, that of the smallest of them.

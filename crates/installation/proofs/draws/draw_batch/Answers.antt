@@ -6,7 +6,7 @@ use Rattle.planner.specs.Open.{fronted}
 use Rattle.planner.specs.Draw.{draw_fault, counts, unless}
 use Rattle.installation.specs.Hands.{hand, may_draw}
 use Rattle.installation.proofs.Held.{may-slot, draw-waits, draw-makes, draw-fails, cut-is, put_is}
-use Rattle.installation.proofs.drawing.draw_batch.Goals as goal
+use Rattle.installation.proofs.draws.draw_batch.Goals as goal
 
 pub returns-then-not-may_draw : goal.returns-then-not-may_draw
 returns-then-not-may_draw g c =

@@ -1,6 +1,6 @@
 //! Blocks of changes, and the work count: the links that blocks receive, summed over all blocks of a batch.
-use crate::simple::network::{Change, Link, apply, index};
 use crate::simple::order::{Edge, Order, Ranked};
+use crate::simple::records::{Change, Link, apply, index};
 use crate::simple::tree::{Labels, least_forest};
 use std::alloc::{AllocError, Global};
 
