@@ -67,7 +67,7 @@ fn compare_draw<W: Kind>(
             refused(case, loan, answer, refusal, tree, tally)?;
             Ok(Some(refusal))
         }
-        Err(Stop::Memory) => Err(Failure::Memory),
+        Err(Stop::Memory(e)) => Err(e.into()),
     }
 }
 
@@ -130,7 +130,7 @@ fn compare_open<W: Kind>(
             }
             Vec::new(heap)
         }
-        Err(Stop::Memory) => return Err(Failure::Memory),
+        Err(Stop::Memory(e)) => return Err(e.into()),
     };
     tally.expect(
         fronted(loan.tree.as_slice(), tree.as_slice()),

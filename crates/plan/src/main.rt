@@ -2,19 +2,19 @@
 //! 1 for a refusal.
 #![tactic(auto)]
 
-use anyhow::anyhow;
 use plan_lines::{
     EntryLine, Refusal, TreeLine, WorkLine, draw_refusal, open_refusal, text_refusal,
 };
 use planner::{Book, Tables};
 use plant_text::{Plant, Room, read_plant};
 use std::io::Read;
+use std::process::ExitCode;
 use weights::Weight;
 
 /// Bytes enough to tell that a text is too long.
 const ENOUGH: u64 = 4097;
 
-fn main(rt: HostRuntime) -> anyhow::Result<()> {
+fn main(rt: HostRuntime) -> anyhow::Result<ExitCode> {
     let mut input = Vec::new(rt.alloc());
     rt.stdin().take(ENOUGH).read_to_end(&mut input)?;
     let room = Room::reserve(rt.alloc())?;
@@ -26,7 +26,7 @@ fn main(rt: HostRuntime) -> anyhow::Result<()> {
 }
 
 /// Opens a plant's network, draws its changes and prints the plan.
-fn tell<W: Weight>(rt: &HostRuntime, plant: plant_text::Tables<W>) -> anyhow::Result<()> {
+fn tell<W: Weight>(rt: &HostRuntime, plant: plant_text::Tables<W>) -> anyhow::Result<ExitCode> {
     let plant_text::Tables {
         n,
         ends,
@@ -74,7 +74,7 @@ fn print_plan(
     start: &[u32],
     entries: &[(u32, u32)],
     work: u64,
-) -> anyhow::Result<()> {
+) -> anyhow::Result<ExitCode> {
     println!(rt; "{}", TreeLine(start))?;
     let mut change = 0u32;
     for entry in entries {
@@ -87,11 +87,11 @@ fn print_plan(
         println!(rt; "{line}")?;
     }
     println!(rt; "{}", WorkLine(work))?;
-    Ok(())
+    Ok(ExitCode::SUCCESS)
 }
 
 /// Prints a refusal, and ends as one.
-fn refuse(rt: &HostRuntime, refusal: Refusal) -> anyhow::Result<()> {
+fn refuse(rt: &HostRuntime, refusal: Refusal) -> anyhow::Result<ExitCode> {
     println!(rt; "{refusal}")?;
-    Err(anyhow!("refused"))
+    Ok(ExitCode::FAILURE)
 }

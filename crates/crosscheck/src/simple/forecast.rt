@@ -75,18 +75,18 @@ pub struct Refusal {
 #[derive(Drop)]
 pub enum Stop {
     Refused(Refusal),
-    Memory,
+    Memory(AllocError),
 }
 
 impl From<AllocError> for Stop {
-    fn from(_e: AllocError) -> Stop {
-        Stop::Memory
+    fn from(e: AllocError) -> Stop {
+        Stop::Memory(e)
     }
 }
 
 impl<T: Drop> From<AllocFailed<T>> for Stop {
-    fn from(_e: AllocFailed<T>) -> Stop {
-        Stop::Memory
+    fn from(e: AllocFailed<T>) -> Stop {
+        Stop::Memory(e.into())
     }
 }
 
@@ -219,6 +219,6 @@ pub fn links_after(heap: Global, case: &Case) -> Result<Vec<Link>, AllocError> {
     match draw(heap, case) {
         Ok(plan) => plan.links.clone(),
         Err(Stop::Refused(_)) => case.links.clone(),
-        Err(Stop::Memory) => Err(AllocError),
+        Err(Stop::Memory(e)) => Err(e),
     }
 }
