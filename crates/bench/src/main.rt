@@ -2,6 +2,7 @@
 //! argument `time` it also prints how long each draw took.
 #![tactic(auto)]
 
+use faults::Fault;
 use network::{Change, Ends, LinkState, Node};
 use planner::{Book, Tables};
 use std::alloc::{AllocError, Global};
@@ -120,7 +121,7 @@ fn measure(rt: &HostRuntime, timed: bool, n: u32, m: u32, k: u32) -> anyhow::Res
     println!(rt; "{n} nodes, {m} links, {k} changes")?;
     match drawn {
         Ok(plan) => tell(rt, plan.work, bound(m, k), checksum(entries.as_slice()))?,
-        Err(fault) => println!(rt; "  refused {}", fault.report().code)?,
+        Err(fault) => println!(rt; "  refused {}", Fault::from(fault).code)?,
     }
     if timed {
         println!(rt; "  {} microseconds", took.as_micros())?;

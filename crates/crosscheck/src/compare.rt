@@ -125,7 +125,7 @@ fn compare_open<W: Kind>(
         }
         Err(Stop::Refused(refusal)) => {
             match heard {
-                Some(fault) => tally.expect(told(fault.report(), refusal), Finding::OpenAnswer),
+                Some(fault) => tally.expect(told(Fault::from(fault), refusal), Finding::OpenAnswer),
                 None => tally.expect(false, Finding::OpenAnswer),
             }
             Vec::new(heap)
@@ -151,7 +151,7 @@ fn refused<W: Kind>(
     tally.count_refusal();
     match answer {
         Ok(_) => tally.expect(false, Finding::DrawAnswer),
-        Err(fault) => tally.expect(told(fault.report(), refusal), Finding::DrawAnswer),
+        Err(fault) => tally.expect(told(Fault::from(fault), refusal), Finding::DrawAnswer),
     }
     tally.expect(fronted(loan.start.as_slice(), &[]), Finding::StartList);
     tally.expect(has_entries(loan.entries.as_slice(), &[]), Finding::Entries);

@@ -232,7 +232,7 @@ fn no_way_on<F: Fabric>(
                 code: 32,
                 place: moment,
             };
-            tally.expect(fault.report() == wanted, Finding::Player);
+            tally.expect(Fault::from(fault) == wanted, Finding::Player);
             Ok(player)
         }
     }

@@ -129,7 +129,7 @@ fn high_classes(tally: &mut Tally) {
                     code: 16,
                     place: 0,
                 };
-                tally.expect(class > 7 && fault.report() == wanted, Finding::Class);
+                tally.expect(class > 7 && Fault::from(fault) == wanted, Finding::Class);
             }
         }
     }

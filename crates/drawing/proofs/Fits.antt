@@ -6,9 +6,9 @@ use Rattle.std.specs.Option.{option_map}
 use Rattle.network.specs.declared.types.Ends.{Ends}
 use Rattle.network.specs.declared.types.EndFault.TheVariants.{Outside, Same}
 use Rattle.faults.specs.declared.OpenFault.TheVariants.{NodeCount, LinkCount, ShortTables}
-use Rattle.network.specs.Ends.{no_node, end_fault, first_end_fault}
+use Rattle.network.specs.Ends.{no_node, end_fault, first_end_fault, no_open}
 use Rattle.places.proofs.Refusals.{cond-none, or_else-none, mapped-none}
-use Rattle.drawing.specs.Tables.{misfit, tables_fault, of_ends}
+use Rattle.drawing.specs.Tables.{misfit, tables_fault}
 use Rattle.drawing.specs.Tree.{EndsUnder}
 
 -- Tables in which a network can be worked out.
@@ -23,13 +23,13 @@ pub record Fit (n : ℕ) (es : List Ends) (l t w : ℕ) : Type 0 where
 
 pub fits : (n : ℕ) (es : List Ends) (l t w : ℕ) → tables_fault n es l t w ≡ None → Fit n es l t w
 fits n es l t w e =
-    let last = option_map of_ends (first_end_fault n 1 es) in
+    let last = option_map no_open (first_end_fault n 1 es) in
     let third = cond (misfit n (length es) l t w) (Some ShortTables) last in
     let second = cond (ltb 16384 (length es)) (Some LinkCount) third in
     let a = cond-none (eqb n 0 || ltb 4096 n) NodeCount second e in
     let b = cond-none (ltb 16384 (length es)) LinkCount third a.1 in
     let c = cond-none (misfit n (length es) l t w) ShortTables last b.1 in
-    let m = mapped-none of_ends (first_end_fault n 1 es) c.1 in
+    let m = mapped-none no_open (first_end_fault n 1 es) c.1 in
     let u = a.0 in
     let v = b.0 in
     let x = c.0 in
@@ -48,7 +48,7 @@ fit_none n es l t w f =
     let a : (eqb n 0 || ltb 4096 n) ≡ false = (let u = f.some in let v = f.nodes in grind (arith, nat_tests)) in
     let b : ltb 16384 (length es) ≡ false = (let u = f.links in grind (arith, nat_tests)) in
     let c : misfit n (length es) l t w ≡ false = (let u = f.same in let v = f.tree in let x = f.work in grind (arith, nat_tests)) in
-    cond-false (eqb n 0 || ltb 4096 n) _ _ a ∙ cond-false (ltb 16384 (length es)) _ _ b ∙ cond-false (misfit n (length es) l t w) _ _ c ∙ ap (option_map of_ends) f.ends
+    cond-false (eqb n 0 || ltb 4096 n) _ _ a ∙ cond-false (ltb 16384 (length es)) _ _ b ∙ cond-false (misfit n (length es) l t w) _ _ c ∙ ap (option_map no_open) f.ends
 
 -- Longer tables fit too.
 pub longer : (n : ℕ) (es : List Ends) (l t w u v : ℕ) → tables_fault n es l t w ≡ None → n - 1 ≤ u → 64 * (n + length es) ≤ v → tables_fault n es l u v ≡ None

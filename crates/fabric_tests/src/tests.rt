@@ -20,7 +20,7 @@ fn link(a: u32, b: u32) -> Ends {
 fn granted(answer: Result<(), FabricFault>) -> Result<(), Fault> {
     match answer {
         Ok(()) => Ok(()),
-        Err(fault) => Err(fault.report()),
+        Err(fault) => Err(Fault::from(fault)),
     }
 }
 
@@ -39,7 +39,7 @@ fn refused(
                 code,
                 place,
             };
-            assert_eq!(rt; fault.report(), report);
+            assert_eq!(rt; Fault::from(fault), report);
             Ok(())
         }
     }
@@ -71,7 +71,7 @@ fn not_made(
                 code,
                 place,
             };
-            assert_eq!(rt; fault.report(), report);
+            assert_eq!(rt; Fault::from(fault), report);
             Ok(())
         }
     }

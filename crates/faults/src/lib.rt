@@ -2,10 +2,12 @@
 #![tactic(auto)]
 
 ghost use Rattle.std.specs.Prelude.{◌≡◌};
+ghost use Rattle.faults.specs.declared.DrawFault.TheVariants.{NotOpened};
+ghost use Rattle.faults.specs.declared.PlayerFault.TheVariants.{Refused};
 ghost use Rattle.faults.specs.Table.{at, of_weight, of_open, of_draw, of_fabric, of_blank, of_player, of_text};
 
 /// The part that a call belongs to. Weights belong to the book.
-#[derive(Clone, Copy, PartialEq, Debug)]
+#[derive(Clone, Copy, PartialEq, Eq, Debug)]
 pub enum Layer {
     Text,
     Book,
@@ -16,7 +18,7 @@ pub enum Layer {
 
 /// A refusal as it is reported: the layer of the call that found it, its code, and the place: a link, a change or a
 /// moment by number, or 0.
-#[derive(Clone, Copy, PartialEq, Debug)]
+#[derive(Clone, Copy, PartialEq, Eq, Debug)]
 pub struct Fault {
     pub layer: Layer,
     pub code: u32,
@@ -24,14 +26,14 @@ pub struct Fault {
 }
 
 /// Why a weight is not made.
-#[derive(Clone, Copy)]
+#[derive(Clone, Copy, PartialEq, Eq, Debug)]
 pub enum WeightFault {
     /// The class is above 7.
     ClassAbove,
 }
 
 /// Why a network is not opened.
-#[derive(Clone, Copy)]
+#[derive(Clone, Copy, PartialEq, Eq, Debug)]
 pub enum OpenFault {
     /// No node, or more than 4,096.
     NodeCount,
@@ -48,7 +50,7 @@ pub enum OpenFault {
 }
 
 /// Why a batch is not drawn.
-#[derive(Clone, Copy)]
+#[derive(Clone, Copy, PartialEq, Eq, Debug)]
 pub enum DrawFault {
     /// The book's open was refused.
     NotOpened(OpenFault),
@@ -65,7 +67,7 @@ pub enum DrawFault {
 }
 
 /// Why a fabric refuses a link.
-#[derive(Clone, Copy)]
+#[derive(Clone, Copy, PartialEq, Eq, Debug)]
 pub enum FabricFault {
     /// The link is 0 or over the size.
     LinkOutside(u32),
@@ -76,7 +78,7 @@ pub enum FabricFault {
 }
 
 /// Why a blank fabric is not made.
-#[derive(Clone, Copy)]
+#[derive(Clone, Copy, PartialEq, Eq, Debug)]
 pub enum BlankFault {
     /// No node, or more than 4,096.
     NodeCount,
@@ -91,7 +93,7 @@ pub enum BlankFault {
 }
 
 /// Why a player's call is refused.
-#[derive(Clone, Copy)]
+#[derive(Clone, Copy, PartialEq, Eq, Debug)]
 pub enum PlayerFault {
     /// The fabric's size is not the plan's number of links.
     OtherSize,
@@ -106,7 +108,7 @@ pub enum PlayerFault {
 }
 
 /// Why a text is refused, with the line; line 0 where the whole text has too many bytes.
-#[derive(Clone, Copy)]
+#[derive(Clone, Copy, PartialEq, Eq, Debug)]
 pub enum TextFault {
     /// The line is not one of the format.
     Malformed(u32),
@@ -124,21 +126,21 @@ impl Fault {
     }
 }
 
-impl WeightFault {
-    pub fn report(self) -> Fault
-        ensures { result ≡ of_weight self }
-    {
-        match self {
+impl From<WeightFault> for Fault {
+    ghost from_gives = { λ f r. r ≡ of_weight f };
+
+    fn from(fault: WeightFault) -> Fault {
+        match fault {
             WeightFault::ClassAbove => Fault::new(Layer::Book, 16, 0),
         }
     }
 }
 
-impl OpenFault {
-    pub fn report(self) -> Fault
-        ensures { result ≡ of_open self }
-    {
-        match self {
+impl From<OpenFault> for Fault {
+    ghost from_gives = { λ f r. r ≡ of_open f };
+
+    fn from(fault: OpenFault) -> Fault {
+        match fault {
             OpenFault::NodeCount => Fault::new(Layer::Book, 10, 0),
             OpenFault::LinkCount => Fault::new(Layer::Book, 11, 0),
             OpenFault::ShortTables => Fault::new(Layer::Book, 12, 0),
@@ -149,12 +151,12 @@ impl OpenFault {
     }
 }
 
-impl DrawFault {
-    pub fn report(self) -> Fault
-        ensures { result ≡ of_draw self }
-    {
-        match self {
-            DrawFault::NotOpened(open) => open.report(),
+impl From<DrawFault> for Fault {
+    ghost from_gives = { λ f r. r ≡ of_draw f };
+
+    fn from(fault: DrawFault) -> Fault {
+        match fault {
+            DrawFault::NotOpened(open) => open.into(),
             DrawFault::ChangeCount => Fault::new(Layer::Planner, 20, 0),
             DrawFault::ShortTables => Fault::new(Layer::Planner, 21, 0),
             DrawFault::LinkOutside(change) => Fault::new(Layer::Planner, 22, change),
@@ -164,11 +166,11 @@ impl DrawFault {
     }
 }
 
-impl FabricFault {
-    pub fn report(self) -> Fault
-        ensures { result ≡ of_fabric self }
-    {
-        match self {
+impl From<FabricFault> for Fault {
+    ghost from_gives = { λ f r. r ≡ of_fabric f };
+
+    fn from(fault: FabricFault) -> Fault {
+        match fault {
             FabricFault::LinkOutside(link) => Fault::new(Layer::Fabric, 40, link),
             FabricFault::CarriesAlready(link) => Fault::new(Layer::Fabric, 41, link),
             FabricFault::CarriesNot(link) => Fault::new(Layer::Fabric, 42, link),
@@ -176,11 +178,11 @@ impl FabricFault {
     }
 }
 
-impl BlankFault {
-    pub fn report(self) -> Fault
-        ensures { result ≡ of_blank self }
-    {
-        match self {
+impl From<BlankFault> for Fault {
+    ghost from_gives = { λ f r. r ≡ of_blank f };
+
+    fn from(fault: BlankFault) -> Fault {
+        match fault {
             BlankFault::NodeCount => Fault::new(Layer::Fabric, 10, 0),
             BlankFault::LinkCount => Fault::new(Layer::Fabric, 11, 0),
             BlankFault::ShortMemory => Fault::new(Layer::Fabric, 12, 0),
@@ -190,26 +192,42 @@ impl BlankFault {
     }
 }
 
-impl PlayerFault {
-    /// The report of the player's own code; at code 33 the place is the link, and the fabric's code stands in the case.
-    pub fn report(self) -> Fault
-        ensures { result ≡ of_player self }
-    {
-        match self {
+impl From<OpenFault> for DrawFault {
+    ghost from_gives = { λ f r. r ≡ NotOpened f };
+
+    fn from(fault: OpenFault) -> DrawFault {
+        DrawFault::NotOpened(fault)
+    }
+}
+
+impl From<FabricFault> for PlayerFault {
+    ghost from_gives = { λ f r. r ≡ Refused f };
+
+    fn from(fault: FabricFault) -> PlayerFault {
+        PlayerFault::Refused(fault)
+    }
+}
+
+/// The report of the player's own code; at code 33 the place is the link, and the fabric's code stands in the case.
+impl From<PlayerFault> for Fault {
+    ghost from_gives = { λ f r. r ≡ of_player f };
+
+    fn from(fault: PlayerFault) -> Fault {
+        match fault {
             PlayerFault::OtherSize => Fault::new(Layer::Player, 30, 0),
             PlayerFault::NotBlank => Fault::new(Layer::Player, 31, 0),
             PlayerFault::NoEntry(moment) => Fault::new(Layer::Player, 32, moment),
-            PlayerFault::Refused(fabric) => Fault::new(Layer::Player, 33, fabric.report().place),
+            PlayerFault::Refused(fabric) => Fault::new(Layer::Player, 33, Fault::from(fabric).place),
             PlayerFault::OtherPlan => Fault::new(Layer::Player, 34, 0),
         }
     }
 }
 
-impl TextFault {
-    pub fn report(self) -> Fault
-        ensures { result ≡ of_text self }
-    {
-        match self {
+impl From<TextFault> for Fault {
+    ghost from_gives = { λ f r. r ≡ of_text f };
+
+    fn from(fault: TextFault) -> Fault {
+        match fault {
             TextFault::Malformed(_) => Fault::new(Layer::Text, 1, 0),
             TextFault::OutOfPlace(_) => Fault::new(Layer::Text, 2, 0),
             TextFault::OverCount(_) => Fault::new(Layer::Text, 3, 0),

@@ -4,6 +4,7 @@
 #[cfg(test)]
 mod tests {
     use fabrics::LinkMap;
+    use faults::Fault;
     use installation::{Answer, Batch, Call, Line, Outcome, Seat, State, perform};
     use network::{Change, Ends, LinkState, Node};
     use planner::Tables;
@@ -30,11 +31,11 @@ mod tests {
         match answer {
             Answer::NotMade => 0,
             Answer::Opened => 1,
-            Answer::NotOpened(fault) => u64::from(fault.report().code),
+            Answer::NotOpened(fault) => u64::from(Fault::from(fault).code),
             Answer::Drew(drawn) => drawn.work.saturating_add(100),
-            Answer::NotDrawn(fault) => u64::from(fault.report().code),
+            Answer::NotDrawn(fault) => u64::from(Fault::from(fault).code),
             Answer::Granted => 1,
-            Answer::Refused(fault) => u64::from(fault.report().code),
+            Answer::Refused(fault) => u64::from(Fault::from(fault).code),
             Answer::Abandoned(leaving, coming) => u64::from(leaving)
                 .saturating_mul(10)
                 .saturating_add(u64::from(coming)),

@@ -1,11 +1,11 @@
 //! The records of a network.
 
 /// A node of the network, numbered from 1.
-#[derive(Clone, Copy)]
+#[derive(Clone, Copy, PartialEq, Eq, Debug)]
 pub struct Node(pub u32);
 
 /// The two end nodes of a link. They never change.
-#[derive(Clone, Copy)]
+#[derive(Clone, Copy, PartialEq, Eq, Debug)]
 pub struct Ends {
     pub a: Node,
     pub b: Node,
@@ -28,7 +28,7 @@ pub enum Change<W> {
 }
 
 /// What is wrong with the ends of a link.
-#[derive(Clone, Copy)]
+#[derive(Clone, Copy, PartialEq, Eq, Debug)]
 pub enum EndFault {
     /// An end of this link is no node.
     Outside(u32),

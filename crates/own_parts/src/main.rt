@@ -5,6 +5,7 @@
 mod rates;
 
 use fabric_tests::BitMap;
+use faults::Fault;
 use installation::{Answer, Batch, Call, Line, Outcome, Seat, State, perform};
 use network::{Change, Ends, LinkState, Node};
 use planner::Tables;
@@ -113,11 +114,11 @@ fn tell(rt: &HostRuntime, answer: Answer) -> io::Result<()> {
     match answer {
         Answer::NotMade => println!(rt; "not made"),
         Answer::Opened => println!(rt; "opened"),
-        Answer::NotOpened(fault) => println!(rt; "refused {}", fault.report().code),
+        Answer::NotOpened(fault) => println!(rt; "refused {}", Fault::from(fault).code),
         Answer::Drew(drawn) => println!(rt; "drew {} changes, work {}", drawn.k, drawn.work),
-        Answer::NotDrawn(fault) => println!(rt; "refused {}", fault.report().code),
+        Answer::NotDrawn(fault) => println!(rt; "refused {}", Fault::from(fault).code),
         Answer::Granted => println!(rt; "granted"),
-        Answer::Refused(fault) => println!(rt; "refused {}", fault.report().code),
+        Answer::Refused(fault) => println!(rt; "refused {}", Fault::from(fault).code),
         Answer::Abandoned(leaving, coming) => println!(rt; "abandoned {leaving} {coming}"),
         Answer::Finished(t) => println!(rt; "finished after {t} changes"),
     }

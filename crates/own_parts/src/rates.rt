@@ -5,7 +5,7 @@ ghost use Rattle.std.proofs.Common.{rules};
 
 use weights::{Ordered, Side, Weight};
 
-#[derive(Clone, Copy)]
+#[derive(Clone, Copy, PartialEq, Eq, PartialOrd, Ord, Debug)]
 pub struct Rate(pub u32);
 
 impl Ordered for Rate {
@@ -20,13 +20,7 @@ impl Ordered for Rate {
     ghost passes = { Prim.search rules };
 
     fn side_of(&self, other: &Rate) -> Side {
-        if self.0 > other.0 {
-            Side::Before
-        } else if self.0 == other.0 {
-            Side::Level
-        } else {
-            Side::After
-        }
+        other.cmp(self).into()
     }
 }
 
@@ -35,13 +29,9 @@ impl Weight for Rate {
 
     ghost made = { rate_from };
 
-    ghost width = { 1 };
+    ghost NUMBERS = { 1 };
 
     ghost counted = { Prim.search rules };
-
-    fn width() -> usize {
-        Self::NUMBERS
-    }
 
     fn from_numbers(xs: &[u32]) -> Option<Rate> {
         match xs {

@@ -27,7 +27,7 @@ impl fmt::Display for Refusal {
 pub fn text_refusal(fault: TextFault) -> Refusal
     ensures { result ≡ text_refusal fault }
 {
-    let report = fault.report();
+    let report = Fault::from(fault);
     let line = match fault {
         TextFault::Malformed(line) => line,
         TextFault::OutOfPlace(line) => line,
@@ -40,7 +40,7 @@ pub fn text_refusal(fault: TextFault) -> Refusal
 pub fn open_refusal(fault: OpenFault, link_lines: &[u32]) -> Refusal
     ensures { result ≡ open_refusal link_lines.now fault }
 {
-    let report = fault.report();
+    let report = Fault::from(fault);
     let line = open_line(fault, link_lines);
     Refusal { report, line }
 }
@@ -49,7 +49,7 @@ pub fn open_refusal(fault: OpenFault, link_lines: &[u32]) -> Refusal
 pub fn draw_refusal(fault: DrawFault, change_lines: &[u32], link_lines: &[u32]) -> Refusal
     ensures { result ≡ draw_refusal change_lines.now link_lines.now fault }
 {
-    let report = fault.report();
+    let report = Fault::from(fault);
     let line = match fault {
         DrawFault::NotOpened(open) => open_line(open, link_lines),
         DrawFault::ChangeCount | DrawFault::ShortTables => 0,

@@ -5,7 +5,8 @@ use Rattle.faults.specs.declared.OpenFault.TheVariants.{NotJoined}
 use Rattle.network.specs.declared.types.Ends.{Ends}
 use Rattle.network.specs.declared.types.LinkState.{LinkState}
 use Rattle.network.specs.Ends.{or_else}
-pub use Rattle.drawing.specs.Tables.{fronted, of_ends, misfit, tables_fault, joined}
+pub use Rattle.network.specs.Ends.{unless, no_open}
+pub use Rattle.drawing.specs.Tables.{fronted, misfit, tables_fault, joined}
 
 -- Why a network of n nodes is not opened with a tree table of t numbers and a work area of w words, if so.
 abbrev pub open_fault : {W : Type 0} → ℕ → List Ends → List (LinkState W) → ℕ → ℕ → Option OpenFault

@@ -91,7 +91,7 @@ pub(crate) fn open_and_draw<W: Weight>(
 pub(crate) fn granted(answer: Result<Drawn, DrawFault>) -> Result<Drawn, Fault> {
     match answer {
         Ok(drawn) => Ok(drawn),
-        Err(fault) => Err(fault.report()),
+        Err(fault) => Err(Fault::from(fault)),
     }
 }
 
@@ -106,7 +106,7 @@ pub(crate) fn refused(
     match answer {
         Ok(_) => Err(Fail::new("granted")),
         Err(fault) => {
-            assert_eq!(rt; fault.report(), Fault { layer, code, place });
+            assert_eq!(rt; Fault::from(fault), Fault { layer, code, place });
             Ok(())
         },
     }
@@ -127,7 +127,7 @@ pub(crate) fn not_opened(
                 code,
                 place,
             };
-            assert_eq!(rt; fault.report(), report);
+            assert_eq!(rt; Fault::from(fault), report);
             Ok(())
         }
     }

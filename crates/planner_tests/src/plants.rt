@@ -97,7 +97,7 @@ fn in_class(class: u32, cost: u32) -> Result<LinkState<Class>, Fault> {
             weight,
             present: true,
         }),
-        Err(fault) => Err(fault.report()),
+        Err(fault) => Err(Fault::from(fault)),
     }
 }
 

@@ -100,7 +100,7 @@ fn set<W: Weight>(xs: &[u32]) -> Option<Item<W>>
 fn weight<W: Weight>(xs: &[u32]) -> Option<W>
     ensures { result ≡ W.Weight.made xs.now }
 {
-    if xs.len() != W::width() {
+    if xs.len() != W::NUMBERS {
         return None;
     }
     W::from_numbers(xs)

@@ -44,8 +44,8 @@ mod tests {
     // The fabric's own fault behind a player's, or the player's.
     fn behind(fault: PlayerFault) -> Fault {
         match fault {
-            PlayerFault::Refused(fabric) => fabric.report(),
-            _ => fault.report(),
+            PlayerFault::Refused(fabric) => Fault::from(fabric),
+            _ => Fault::from(fault),
         }
     }
 
@@ -122,7 +122,7 @@ mod tests {
         match played(&plant(), &mut map, forwards, backwards) {
             Ok(t) if t == moment => Ok(carrying(&map)),
             Ok(t) => Err(told(0, t)),
-            Err(fault) => Err(fault.report()),
+            Err(fault) => Err(Fault::from(fault)),
         }
     }
 
@@ -153,7 +153,7 @@ mod tests {
         let mut map = LinkMap::blank(m, &mut bytes);
         match played(plan, &mut map, forwards, backwards) {
             Ok(t) => (told(0, t), told(0, t)),
-            Err(fault) => (fault.report(), behind(fault)),
+            Err(fault) => (Fault::from(fault), behind(fault)),
         }
     }
 
@@ -178,11 +178,11 @@ mod tests {
         let mut map = LinkMap::blank(5, &mut bytes);
         match map.enable(link) {
             Ok(()) => {}
-            Err(fault) => return Err(fault.report()),
+            Err(fault) => return Err(Fault::from(fault)),
         }
         match lay(&plant(), &mut map) {
             Ok(player) => Err(told(0, player.finish())),
-            Err(fault) => Ok((fault.report(), carrying(&map))),
+            Err(fault) => Ok((Fault::from(fault), carrying(&map))),
         }
     }
 
@@ -206,12 +206,12 @@ mod tests {
     fn laid_again_only_at_the_start(rt: HostRuntime) -> Result<(), Fail> {
         match laid_again(2, 2) {
             Ok(t) => assert_eq!(rt; t, 0),
-            Err(fault) => return Err(Fail::from(fault.report())),
+            Err(fault) => return Err(Fail::from(Fault::from(fault))),
         }
         match laid_again(2, 0) {
             Ok(_) => Err(Fail::new("granted")),
             Err(fault) => {
-                assert_eq!(rt; fault.report(), told(31, 0));
+                assert_eq!(rt; Fault::from(fault), told(31, 0));
                 Ok(())
             },
         }
@@ -301,7 +301,7 @@ mod tests {
         let mut map = LinkMap::blank(5, &mut bytes);
         match cancelled(&mut map) {
             Ok(t) => assert_eq!(rt; t, 1),
-            Err(fault) => return Err(Fail::from(fault.report())),
+            Err(fault) => return Err(Fail::from(Fault::from(fault))),
         }
         assert_eq!(rt; carrying(&map), [true, true, false, true, false]);
         Ok(())
@@ -318,7 +318,7 @@ mod tests {
         let mut map = LinkMap::blank(5, &mut bytes);
         match abandoned(&mut map) {
             Ok(links) => assert_eq!(rt; links, (2, 3)),
-            Err(fault) => return Err(Fail::from(fault.report())),
+            Err(fault) => return Err(Fail::from(Fault::from(fault))),
         }
         assert_eq!(rt; carrying(&map), [true, false, false, true, false]);
         Ok(())
@@ -346,7 +346,7 @@ mod tests {
         let mut map = LinkMap::blank(5, &mut bytes);
         match refused_join(&mut map) {
             Ok(heard) => assert_eq!(rt; heard, (fabric_told(41, 3), 1)),
-            Err(fault) => return Err(Fail::from(fault.report())),
+            Err(fault) => return Err(Fail::from(Fault::from(fault))),
         }
         assert_eq!(rt; carrying(&map), [true, true, true, true, false]);
         Ok(())
@@ -364,7 +364,7 @@ mod tests {
                 let (leaving, _) = between.abandon();
                 Err(PlayerFault::NoEntry(leaving))
             }
-            Err(kept) => Ok(ended(kept).report()),
+            Err(kept) => Ok(Fault::from(ended(kept))),
         }
     }
 
@@ -375,7 +375,7 @@ mod tests {
                 assert_eq!(rt; fault, told(34, 0));
                 Ok(())
             },
-            Err(fault) => Err(Fail::from(fault.report())),
+            Err(fault) => Err(Fail::from(Fault::from(fault))),
         }
     }
 }

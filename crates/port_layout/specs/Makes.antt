@@ -1,20 +1,15 @@
 -- When memory is refused as a port table.
 use Rattle.std.specs.Prelude.{◌≡◌, ℕ, ◌+◌, ◌*◌, cond, List, [], length, Some, None, Option, ◌==◌, nat_lt}
 use Rattle.faults.specs.declared.BlankFault.{BlankFault}
-use Rattle.faults.specs.declared.BlankFault.TheVariants.{NodeCount, LinkCount, ShortMemory, EndOutside, SameEnds}
-use Rattle.network.specs.Ends.{first_end_fault}
+use Rattle.faults.specs.declared.BlankFault.TheVariants.{NodeCount, LinkCount, ShortMemory}
+use Rattle.network.specs.Ends.{first_end_fault, no_blank}
 use Rattle.network.specs.declared.types.Ends.{Ends}
 use Rattle.network.specs.declared.types.EndFault.{EndFault}
-use Rattle.network.specs.declared.types.EndFault.TheVariants.{Outside, Same}
 
--- What is wrong with the ends of a link, as a ground to make no port table.
-abbrev pub of_end : EndFault → BlankFault
-of_end (Outside k) = EndOutside k
-of_end (Same k) = SameEnds k
-
+-- What is wrong with the ends of links, as a ground to make no port table.
 abbrev pub of_ends : Option EndFault → Option BlankFault
 of_ends None = None
-of_ends (Some f) = Some (of_end f)
+of_ends (Some f) = Some (no_blank f)
 
 -- How many bytes a port table of n nodes and m links needs.
 abbrev pub table_size : ℕ → ℕ → ℕ

@@ -3,13 +3,14 @@
 ghost use Rattle.std.specs.Prelude.{◌≡◌, ◌-◌, ◌<◌, false, length, OnErr, OnOk, slice_index_or};
 ghost use Rattle.fabrics.specs.Blank.{Begins};
 ghost use Rattle.fabrics.specs.Meaning.{Enables, Disables};
+ghost use Rattle.network.specs.Ends.{unless};
 ghost use Rattle.port_layout.specs.Makes.{table_size, table_fault, Wired};
 ghost use Rattle.port_layout.specs.Ports.{Table, TableShape, shape_of, flags, enabled, disabled};
 
 use crate::links::{carries, chain_link, unchain_link};
 use fabrics::{Fabric, place};
 use faults::{BlankFault, FabricFault};
-use network::{EndFault, Ends, MAX_LINKS, MAX_NODES, first_end_fault};
+use network::{Ends, MAX_LINKS, MAX_NODES, check_ends};
 
 /// A fabric of n nodes and the links with these ends, in lent memory of 2 bytes for each node and 4 for each link.
 #[derive(Drop)]
@@ -21,24 +22,21 @@ pub struct PortTable<'e, 'a> {
     ghost table: { ∥ Table n ends.now bytes.now ∥₁ },
 }
 
-/// Why memory of `len` bytes is refused as a port table of n nodes with these links, if it is.
-fn table_fault(n: u32, ends: &[Ends], len: usize) -> Option<BlankFault>
-    ensures { result ≡ table_fault n ends.now len }
+/// Refuses memory of `len` bytes that makes no port table of n nodes with these links.
+fn check_table(n: u32, ends: &[Ends], len: usize) -> Result<(), BlankFault>
+    ensures { result ≡ unless (table_fault n ends.now len) tt }
 {
     if n == 0 || n > MAX_NODES {
-        return Some(BlankFault::NodeCount);
+        return Err(BlankFault::NodeCount);
     }
     if ends.len() > MAX_LINKS {
-        return Some(BlankFault::LinkCount);
+        return Err(BlankFault::LinkCount);
     }
     if len < 2 * n as usize + 4 * ends.len() {
-        return Some(BlankFault::ShortMemory);
+        return Err(BlankFault::ShortMemory);
     }
-    match first_end_fault(n, ends) {
-        Some(EndFault::Outside(link)) => Some(BlankFault::EndOutside(link)),
-        Some(EndFault::Same(link)) => Some(BlankFault::SameEnds(link)),
-        None => None,
-    }
+    check_ends(n, ends)?;
+    Ok(())
 }
 
 impl<'e, 'a> PortTable<'e, 'a> {
@@ -50,7 +48,7 @@ impl<'e, 'a> PortTable<'e, 'a> {
         ensures outcome { Begins (table_fault n ends.now (length bytes.old)) (length ends.now) (table_size n (length ends.now)) bytes.old result.bytes.now (flags result.n result.ends.now result.bytes.now) }
         ensures lent { result.bytes.ghost_name ≡ bytes.entry.ghost_name }
     {
-        let refusal = table_fault(n, ends, bytes.len());
+        let refusal = check_table(n, ends, bytes.len()).err();
         if refusal.is_some() {
             return PortTable {
                 n: 0,

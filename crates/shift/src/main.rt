@@ -4,6 +4,7 @@
 
 use anyhow::anyhow;
 use fabrics::{Fabric, LinkMap};
+use faults::Fault;
 use installation::{Answer, Batch, Call, Line, Seat, State, resume};
 use network::{Change, Ends, LinkState};
 use plan_lines::{Refusal, text_refusal};
@@ -103,7 +104,7 @@ fn play<W: Weight, F: Fabric>(
     };
     let mut book = Book::open(tables, work.as_mut_slice());
     if let Some(fault) = book.refusal() {
-        println!(rt; "open: refused {}", fault.report().code)?;
+        println!(rt; "open: refused {}", Fault::from(fault).code)?;
         return Err(anyhow!("refused"));
     }
     let mut state = State {
@@ -265,11 +266,11 @@ fn tell<F: Fabric>(rt: &HostRuntime, line: Line, step: Step, fabric: &F) -> io::
     match line.answer {
         Answer::NotMade => print!(rt; "{name}: not made;")?,
         Answer::Opened => print!(rt; "{name}: granted;")?,
-        Answer::NotOpened(fault) => print!(rt; "{name}: refused {};", fault.report().code)?,
+        Answer::NotOpened(fault) => print!(rt; "{name}: refused {};", Fault::from(fault).code)?,
         Answer::Drew(drawn) => print!(rt; "{name}: {} changes, work {};", drawn.k, drawn.work)?,
-        Answer::NotDrawn(fault) => print!(rt; "{name}: refused {};", fault.report().code)?,
+        Answer::NotDrawn(fault) => print!(rt; "{name}: refused {};", Fault::from(fault).code)?,
         Answer::Granted => tell_step(rt, line.call, step)?,
-        Answer::Refused(fault) => print!(rt; "{name}: refused {};", fault.report().code)?,
+        Answer::Refused(fault) => print!(rt; "{name}: refused {};", Fault::from(fault).code)?,
         Answer::Abandoned(leaving, coming) => print!(rt; "{name}: {leaving} {coming};")?,
         Answer::Finished(t) => print!(rt; "{name}: after {t} changes;")?,
     }

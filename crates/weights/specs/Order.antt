@@ -1,10 +1,18 @@
 -- The order of costs and of class weights.
 use Rattle.std.specs.Prelude.{ℕ, cond, ◌==◌, nat_lt}
+use Rattle.std.specs.declared.cmp.Ordering.{Ordering}
+use Rattle.std.specs.declared.cmp.Ordering.TheVariants.{Less, Equal, Greater}
 use Rattle.weights.specs.declared.class.Class.{Class}
 use Rattle.weights.specs.declared.standing.Standing.{Standing}
 use Rattle.weights.specs.declared.standing.Standing.TheVariants.{At, Absent}
 use Rattle.weights.specs.declared.order.Side.{Side}
 use Rattle.weights.specs.declared.order.Side.TheVariants.{Before, Level, After}
+
+-- what is less is before
+abbrev pub side_from : Ordering → Side
+side_from Less = Before
+side_from Equal = Level
+side_from Greater = After
 
 -- the smaller number is before
 abbrev pub compared : ℕ → ℕ → Side

@@ -8,7 +8,7 @@ use crate::order::{Ordered, Side};
 use crate::weight::Weight;
 use std::fmt;
 
-#[derive(Clone, Copy)]
+#[derive(Clone, Copy, PartialEq, Eq, PartialOrd, Ord, Debug)]
 pub struct Cost(pub u32);
 
 impl Ordered for Cost {
@@ -23,13 +23,7 @@ impl Ordered for Cost {
     ghost passes = { Prim.search rules };
 
     fn side_of(&self, other: &Cost) -> Side {
-        if self.0 < other.0 {
-            Side::Before
-        } else if self.0 == other.0 {
-            Side::Level
-        } else {
-            Side::After
-        }
+        self.cmp(other).into()
     }
 }
 
@@ -38,13 +32,9 @@ impl Weight for Cost {
 
     ghost made = { cost_from };
 
-    ghost width = { 1 };
+    ghost NUMBERS = { 1 };
 
     ghost counted = { Prim.search rules };
-
-    fn width() -> usize {
-        Self::NUMBERS
-    }
 
     fn from_numbers(xs: &[u32]) -> Option<Cost> {
         match xs {

@@ -1,14 +1,30 @@
 //! Orders in which values may be level.
 ghost use Rattle.std.specs.Prelude.{◌≡◌, ◌≢◌};
+ghost use Rattle.weights.specs.Order.{side_from};
 ghost use Rattle.weights.specs.declared.order.Side.{Side};
 ghost use Rattle.weights.specs.declared.order.Side.TheVariants.{Before, Level, After};
 
+use std::cmp::Ordering;
+
 /// Where one value stands to another.
-#[derive(Clone, Copy)]
+#[derive(Clone, Copy, PartialEq, Eq, Debug)]
 pub enum Side {
     Before,
     Level,
     After,
+}
+
+/// What is less is before.
+impl From<Ordering> for Side {
+    ghost from_gives = { λ o r. r ≡ side_from o };
+
+    fn from(order: Ordering) -> Side {
+        match order {
+            Ordering::Less => Side::Before,
+            Ordering::Equal => Side::Level,
+            Ordering::Greater => Side::After,
+        }
+    }
 }
 
 /// Values that are compared, with the three laws that a kind must show: a value is level with itself; u is before v

@@ -25,15 +25,11 @@ impl<W: Ordered> Ordered for Standing<W> {
     ghost passes = { Prim.search rules };
 
     fn side_of(&self, other: &Standing<W>) -> Side {
-        match self {
-            Standing::At(u) => match other {
-                Standing::At(v) => u.side_of(v),
-                Standing::Absent => Side::Before,
-            },
-            Standing::Absent => match other {
-                Standing::At(_) => Side::After,
-                Standing::Absent => Side::Level,
-            },
+        match (self, other) {
+            (Standing::At(u), Standing::At(v)) => u.side_of(v),
+            (Standing::At(_), Standing::Absent) => Side::Before,
+            (Standing::Absent, Standing::At(_)) => Side::After,
+            (Standing::Absent, Standing::Absent) => Side::Level,
         }
     }
 }

@@ -11,16 +11,13 @@ pub trait Weight: Ordered {
     /// The weight that these numbers of a line make, if any.
     ghost made: { List ℕ → Option Self };
 
-    ghost width: { ℕ };
-
-    /// The constant again, with its contract: a constant of a trait has none of its own.
-    fn width() -> usize
-        ensures { result ≡ width };
+    /// The constant, for clauses.
+    ghost NUMBERS: { ℕ };
 
     /// The weight that these numbers make, of which there are as many as the kind takes.
     fn from_numbers(xs: &[u32]) -> Option<Self>
-        requires { length xs.now ≡ width }
+        requires { length xs.now ≡ NUMBERS }
         ensures { result ≡ made xs.now };
 
-    ghost counted: { (xs : List ℕ) → (length xs ≢ width) → made xs ≡ None };
+    ghost counted: { (xs : List ℕ) → (length xs ≢ NUMBERS) → made xs ≡ None };
 }

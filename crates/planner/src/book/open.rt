@@ -1,6 +1,7 @@
 //! Opening and closing a book.
-ghost use Rattle.std.specs.Prelude.{◌≡◌, length, is_some, if◌then◌else◌};
+ghost use Rattle.std.specs.Prelude.{◌≡◌, length, is_ok, is_some, if◌then◌else◌};
 ghost use Rattle.plans.specs.Network.{least_tree};
+ghost use Rattle.network.specs.Ends.{unless};
 ghost use Rattle.planner.specs.Open.{open_fault};
 ghost use Rattle.drawing.specs.Tables.{tables_fault, fronted};
 
@@ -8,8 +9,8 @@ use crate::book::Book;
 use crate::tables::Tables;
 use drawing::least_tree;
 use faults::OpenFault;
-use network::{EndFault, Ends};
-use weights::Weight;
+use network::{Ends, LinkState, MAX_LINKS, MAX_NODES, check_ends};
+use weights::{Ordered, Weight};
 
 impl<'a, 'b, 'c, W: Weight> Book<'a, 'b, 'c, W> {
     /// Opens a network: the book keeps the least tree of its present links, ascending at the front of the tree table. A
@@ -28,12 +29,7 @@ impl<'a, 'b, 'c, W: Weight> Book<'a, 'b, 'c, W> {
             links,
             tree,
         } = tables;
-        let mut refusal = check_tables(n, ends, links.len(), tree.len(), work.len());
-        if refusal.is_none() {
-            if !least_tree(n, ends, links, tree, work) {
-                refusal = Some(OpenFault::NotJoined);
-            }
-        }
+        let refusal = find_tree(n, ends, links, tree, work).err();
         Book {
             n,
             ends,
@@ -74,22 +70,43 @@ impl<'a, 'b, 'c, W: Weight> Book<'a, 'b, 'c, W> {
     }
 }
 
-/// What is wrong with the counts, the tables or the ends, if anything.
-fn check_tables(n: u32, ends: &[Ends], links: usize, tree: usize, work: usize) -> Option<OpenFault>
-    ensures { result ≡ tables_fault n ends.now links tree work }
+/// Writes the least tree into the tree table, if the network is sound; if not, the tree table stays.
+fn find_tree<W: Ordered>(
+    n: u32,
+    ends: &[Ends],
+    links: &[LinkState<W>],
+    tree: &mut [u32],
+    work: &mut [u32],
+) -> Result<(), OpenFault>
+    ensures answer { result ≡ unless (open_fault n ends.now links.now (length tree.old) (length work.old)) tt }
+    ensures tree { tree.new ≡ (if is_ok result then fronted (least_tree W.Ordered.side ends.now links.now) tree.old else tree.old) }
 {
-    if n == 0 || n > network::MAX_NODES {
-        return Some(OpenFault::NodeCount);
+    check_tables(n, ends, links.len(), tree.len(), work.len())?;
+    if !least_tree(n, ends, links, tree, work) {
+        return Err(OpenFault::NotJoined);
     }
-    if ends.len() > network::MAX_LINKS {
-        return Some(OpenFault::LinkCount);
+    Ok(())
+}
+
+/// Refuses counts, tables or ends that are out of range.
+fn check_tables(
+    n: u32,
+    ends: &[Ends],
+    links: usize,
+    tree: usize,
+    work: usize,
+) -> Result<(), OpenFault>
+    ensures { result ≡ unless (tables_fault n ends.now links tree work) tt }
+{
+    if n == 0 || n > MAX_NODES {
+        return Err(OpenFault::NodeCount);
+    }
+    if ends.len() > MAX_LINKS {
+        return Err(OpenFault::LinkCount);
     }
     if ends.len() != links || tree < n as usize - 1 || work < 64 * (n as usize + ends.len()) {
-        return Some(OpenFault::ShortTables);
+        return Err(OpenFault::ShortTables);
     }
-    match network::first_end_fault(n, ends) {
-        Some(EndFault::Outside(k)) => Some(OpenFault::EndOutside(k)),
-        Some(EndFault::Same(k)) => Some(OpenFault::SameEnds(k)),
-        None => None,
-    }
+    check_ends(n, ends)?;
+    Ok(())
 }

@@ -36,17 +36,7 @@ impl Ordered for Class {
     ghost passes = { λ u v w. passes_on u.class u.cost v.class v.cost w.class w.cost };
 
     fn side_of(&self, other: &Class) -> Side {
-        if self.class < other.class {
-            Side::Before
-        } else if self.class > other.class {
-            Side::After
-        } else if self.cost < other.cost {
-            Side::Before
-        } else if self.cost == other.cost {
-            Side::Level
-        } else {
-            Side::After
-        }
+        self.cmp(other).into()
     }
 }
 
@@ -55,13 +45,9 @@ impl Weight for Class {
 
     ghost made = { class_from };
 
-    ghost width = { 2 };
+    ghost NUMBERS = { 2 };
 
     ghost counted = { first_of (Prim.search rules, Prim.grind (arith, Self.row.coded.inj)) };
-
-    fn width() -> usize {
-        Self::NUMBERS
-    }
 
     fn from_numbers(xs: &[u32]) -> Option<Class> {
         match xs {
