@@ -3,7 +3,7 @@ use Rattle.std.proofs.Common.{◌≡◌, ℕ, ◌+◌, ◌-◌, ◌*◌, ◌/◌
 use Rattle.std.specs.List.{range_with_len}
 use Rattle.std.proofs.lemmas.List.{length-set, length-take-le, length-append, take-append-le, get_or-take, get_or-set_same, get_or-set_other}
 use Rattle.std.proofs.lemmas.List.FromFn.{length-map-range_with_len, get_or-map-range_with_len, take-map-range_with_len}
-use Rattle.graphs.specs.declared.Link.{Link}
+use Rattle.block_records.specs.declared.Link.{Link}
 use Rattle.forests.specs.Words.{link, link_in, links_in}
 use Rattle.forests.proofs.Counts.{counted_same, counted-set}
 

@@ -1,7 +1,7 @@
 -- Links in a table of words, three words each.
 use Rattle.std.specs.Prelude.{ℕ, ◌+◌, ◌*◌, ◌/◌, List, map, length, slice_index}
 use Rattle.std.specs.List.{range_with_len}
-use Rattle.graphs.specs.declared.Link.{Link}
+use Rattle.block_records.specs.declared.Link.{Link}
 
 -- A link's number and its two ends.
 abbrev pub link : ℕ → ℕ → ℕ → Link

@@ -1,6 +1,6 @@
 //! Kruskal's greedy choice over links in words: of links in order, those whose ends are not yet joined.
 ghost use Rattle.std.specs.Prelude.{◌≡◌, ℕ, ◌/◌, ◌^◌, ◌≤◌, List, [], length, take};
-ghost use Rattle.graphs.specs.declared.Link.{Link};
+ghost use Rattle.block_records.specs.declared.Link.{Link};
 ghost use Rattle.graphs.specs.Forest.{greedy};
 ghost use Rattle.forests.specs.Words.{links_in};
 ghost use Rattle.forests.specs.Union.{Falls, Holds, Ends};

@@ -3,7 +3,7 @@ ghost use Rattle.std.specs.Prelude.{◌≡◌, ℕ, ◌*◌, ◌/◌, ◌<◌, m
 ghost use Rattle.forests.specs.Words.{link_in, links_in};
 ghost use Rattle.forests.specs.Heap.{Indexes};
 
-use graphs::{BlockNode, Link};
+use block_records::{BlockNode, Link};
 
 /// The i-th link of a table, counted from 0.
 pub fn link_at(words: &[u32], i: usize) -> Link
