@@ -1,5 +1,5 @@
 -- Links, moves and entries in words: three words each for a link, two for a move and for an entry.
-use Rattle.std.specs.Prelude.{ℕ, List, map, slice_index}
+use Rattle.std.specs.Prelude.{ℕ, List, [], map, slice_index, slice_index_or}
 use Rattle.block_records.specs.declared.Link.{Link}
 use Rattle.block_records.specs.declared.Move.{Move}
 
@@ -14,6 +14,10 @@ no_link = link 0 0 0
 -- The link in some words: its number, then its two ends.
 abbrev pub link_of : List ℕ → Link
 link_of words = link (slice_index words 0) (slice_index words 1) (slice_index words 2)
+
+-- The i-th link of a table, counted from 0.
+abbrev pub link_in : List (List ℕ) → ℕ → Link
+link_in table i = link_of (slice_index_or table i [])
 
 -- The links of a table.
 abbrev pub links_in : List (List ℕ) → List Link

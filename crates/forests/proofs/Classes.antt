@@ -73,9 +73,6 @@ holds-hung e es ps lo hi lt apart mn mx h =
       top = set-each ps hi lo (λ y v. v ≡ y → label (e ∷ es) y ≡ y) lt (λ y l ne t. let k = h.top y l t in grind (arith, nat_tests)) (λ t. absurd (omega arith));
     }
 
-pub hung-falls : (ps : List ℕ) (lo hi : ℕ) → hi < length ps → lo < hi → Falls ps → Falls (set ps hi lo)
-hung-falls ps lo hi lt apart f = set-each ps hi lo (λ y v. v ≤ y) lt (λ y l _. f y l) (omega arith)
-
 -- A link whose ends are joined can be left out.
 pub holds-without : (e : Link) (es : List Link) (ps : List ℕ) → label es e.a.0 ≡ label es e.b.0 → Holds (e ∷ es) ps → Holds es ps
 unfolding label

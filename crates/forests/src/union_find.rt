@@ -48,8 +48,8 @@ pub fn start(parent: &mut [u32])
     requires { length parent.old ≤ 2 ^ 32 }
     ensures { Holds [] parent.new }
 {
-    for i in 0..parent.len() {
-        parent[i] = i as u32;
+    for (x, up) in parent.iter_mut().enumerate() {
+        *up = x as u32;
     }
 }
 
