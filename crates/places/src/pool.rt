@@ -1,11 +1,12 @@
 //! The pool of a batch: all standings that occur in it, each told by a number that says where its weight stands, so that
 //! no weight is copied. With m links, a number below m tells the weight of the link of that index, m + j the weight that
 //! change j, counted from 0, sets, and any other number absent.
-ghost use Rattle.std.specs.Prelude.{◌≡◌, ℕ, ◌+◌, ◌^◌, ◌<◌, ◌≤◌, [], ◌∷◌, ◌++◌, length, None, slice_index, slice_index_or};
+ghost use Rattle.std.specs.Prelude.{◌≡◌, ℕ, ◌+◌, ◌^◌, ◌<◌, ◌≤◌, [], ◌∷◌, ◌++◌, length, OnOk, slice_index, slice_index_or};
 ghost use Rattle.weights.specs.declared.standing.Standing.TheVariants.{Absent};
 ghost use Rattle.weights.specs.Order.{compared, stand};
 ghost use Rattle.plans.specs.Network.{link_of, standings, moves_of};
 ghost use Rattle.plans.specs.Same.{pool};
+ghost use Rattle.network.specs.Ends.{unless};
 ghost use Rattle.places.specs.Changes.{changes_fault};
 ghost use Rattle.places.specs.Pool.{stands_before, set_to, weights_of, told_by, sourced, source_of, state_of, states, Judged, held_by, state_by, states_by, source_by};
 
@@ -16,23 +17,21 @@ use forests::Ranking;
 use network::{Change, LinkState};
 use weights::{Ordered, Side, Standing};
 
-/// The number at which no weight stands.
+/// The number at which no weight stands: the table of sources is lent words, one for each standing.
 const NOWHERE: u32 = u32::MAX;
 
-/// What is wrong with change i where the links are in these states.
-fn change_fault<W: Ordered>(i: u32, change: &Change<W>, present: &[u32]) -> Option<DrawFault>
+/// Refuses change i, if it may not be made where the links are in these states.
+fn check_change<W: Ordered>(i: u32, change: &Change<W>, present: &[u32]) -> Result<(), DrawFault>
     ensures { Judged i change.now present.now result }
 {
     let k = link_of(change) as usize;
     if k == 0 || present.len() < k {
-        return Some(DrawFault::LinkOutside(i));
+        return Err(DrawFault::LinkOutside(i));
     }
-    if let Change::Remove(_) = change {
-        if present[k - 1] == 0 {
-            return Some(DrawFault::RemoveAbsent(i));
-        }
+    match change {
+        Change::Remove(_) if present[k - 1] == 0 => Err(DrawFault::RemoveAbsent(i)),
+        _ => Ok(()),
     }
-    None
 }
 
 /// Where the standing of a link stands whose weight stands there and whose state is this.
@@ -85,7 +84,7 @@ fn make_change<W: Ordered>(
 fn state_of<W: Ordered>(link: &LinkState<W>) -> u32
     ensures { result ≡ state_of link.now }
 {
-    if link.present { 1 } else { 0 }
+    u32::from(link.present)
 }
 
 /// Notes the states of links.
@@ -93,8 +92,8 @@ fn note_states<W: Ordered>(links: &[LinkState<W>], present: &mut [u32])
     requires { length present.old ≡ length links.now }
     ensures { present.new ≡ states links.now }
 {
-    for i in 0..links.len() {
-        present[i] = state_of(&links[i]);
+    for (i, link) in links.iter().enumerate() {
+        present[i] = state_of(link);
     }
 }
 
@@ -103,8 +102,8 @@ fn note_sources(held: &[u32], present: &[u32], sources: &mut [u32])
     requires { (length present.now ≡ length held.now) × (length held.now ≤ length sources.old) }
     ensures { (x : ℕ) → x < length held.now → slice_index sources.new x ≡ source_of (slice_index held.now x) (slice_index present.now x) }
 {
-    for i in 0..held.len() {
-        sources[i] = source_of(held[i], present[i]);
+    for (i, (weight, state)) in held.iter().zip(present).enumerate() {
+        sources[i] = source_of(*weight, *state);
     }
 }
 
@@ -117,26 +116,23 @@ pub fn trace<W: Ordered>(
     sources: &mut [u32],
     held: &mut [u32],
     present: &mut [u32],
-) -> Option<DrawFault>
+) -> Result<(), DrawFault>
     requires few { (length links.now ≤ 16384) × (length batch.now ≤ 65536) }
     requires room { length sources.old ≡ length links.now + length batch.now + 1 }
     requires tables { (length held.old ≡ length links.now) × (length present.old ≡ length links.now) }
-    ensures faults { result ≡ changes_fault 1 links.now batch.now }
-    ensures pooled { result ≡ None → sourced links.now batch.now sources.new ≡ pool (standings links.now) (moves_of links.now batch.now) ++ Absent ∷ [] }
+    ensures faults { result ≡ unless (changes_fault 1 links.now batch.now) tt }
+    ensures pooled { OnOk result (sourced links.now batch.now sources.new ≡ pool (standings links.now) (moves_of links.now batch.now) ++ Absent ∷ []) }
 {
     forests::start(held);
     note_states(links, present);
     note_sources(held, present, sources);
     let m = links.len();
-    for i in 0..batch.len() {
-        let change = &batch[i];
-        if let Some(fault) = change_fault(i as u32 + 1, change, present) {
-            return Some(fault);
-        }
+    for (i, change) in batch.iter().enumerate() {
+        check_change(i as u32 + 1, change, present)?;
         sources[m + i] = make_change(change, (m + i) as u32, held, present);
     }
     sources[m + batch.len()] = NOWHERE;
-    None
+    Ok(())
 }
 
 /// The weight that a change sets, as a standing; the other changes set none.
@@ -191,10 +187,7 @@ impl<W: Ordered> Ranking for Pool<'_, '_, '_, W> {
     fn precedes(&self, i: u32, j: u32) -> bool {
         let u = self.standing(i);
         let v = self.standing(j);
-        match u.side_of(&v) {
-            Side::Before => true,
-            _ => false,
-        }
+        u.side_of(&v) == Side::Before
     }
 }
 
