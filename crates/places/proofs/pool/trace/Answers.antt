@@ -1,11 +1,11 @@
-use Rattle.std.proofs.Common.{◌≡◌, ℕ, ◌+◌, ◌≤◌, length, Err, sym, ap, ◌∙◌, arith}
+use Rattle.std.proofs.Common.{◌≡◌, ◌+◌, ◌≤◌, length, Err, ap, ◌∙◌, arith}
 use Rattle.std.proofs.lemmas.Result.{err_from_is_err_and}
 use Rattle.network.specs.Ends.{unless}
 use Rattle.network.proofs.Refusing.{refusal-is}
 use Rattle.plans.specs.Network.{links_at}
 use Rattle.places.specs.Pool.{nowhere, weights_of}
 use Rattle.places.proofs.Names.{own-names}
-use Rattle.places.proofs.Tracing.{tracks-start, held-length, present-length}
+use Rattle.places.proofs.Tracing.{tracks-start, held-length}
 use Rattle.places.proofs.Traced.{traced-none, traced-refused, traced-link, traced-made, traced-granted, traced-all}
 use Rattle.places.proofs.pool.trace.Goals as goal
 
@@ -20,28 +20,27 @@ loop-i-init g c =
     traced-none links batch room c.note_sources.new.sources held c.note_states.new.present t
     (omega (arith, c.requires.room, c.note_sources.auto.sources)) (λ x l. c.note_sources.ensures x (omega arith))
 
-pub returns-in_err-check_change-clause-faults : goal.returns-in_err-check_change-clause-faults
-returns-in_err-check_change-clause-faults g c =
+pub returns-in_err-check-clause-faults : goal.returns-in_err-check-clause-faults
+returns-in_err-check-clause-faults g c =
     let links = c.args.links.now in
     let batch = c.args.batch.now in
     let l = c.loop-i in
     let room : length links + length batch ≤ nowhere = omega (arith, c.requires.few) in
-    let f = refusal-is _ _ _ (c.in_err-check_change.ensures (links_at links batch l.i) l.invariant.tracks.state) in
+    let f = refusal-is _ _ _ (c.in_err-check.ensures (links_at links batch l.i) l.invariant.tracks.state) in
     let p = err_from_is_err_and c.from_residual.result c.from_residual.ensures.1 in
     p.1 ∙ ap Err p.2 ∙ ap (λ o. unless o tt)
-    (traced-refused links batch room l.i l.sources l.held l.present l.invariant c.index-batch-i.result c.loop-i-test.true c.index-batch-i.is _ f)
+    (traced-refused links batch room l.i l.sources l.tracked.held.now l.tracked.present.now l.invariant c.index-batch-i.result c.loop-i-test.true c.index-batch-i.is _ f)
 
-pub make_change-requires : goal.make_change-requires
-make_change-requires g c =
+pub make-requires : goal.make-requires
+make-requires g c =
     let links = c.args.links.now in
     let batch = c.args.batch.now in
     let l = c.loop-i in
     let room : length links + length batch ≤ nowhere = omega (arith, c.requires.few) in
-    let k = traced-link links batch room l.i l.sources l.held l.present l.invariant c.index-batch-i.result c.loop-i-test.true c.index-batch-i.is
-    (refusal-is _ _ _ (c.in_ok-check_change.ensures (links_at links batch l.i) l.invariant.tracks.state)) in
-    let n = held-length (weights_of links batch) (links_at links batch l.i) l.held l.present l.invariant.tracks in
-    let m = present-length (weights_of links batch) (links_at links batch l.i) l.held l.present l.invariant.tracks in
-    (k.0, omega (arith, k.1), m ∙ sym n)
+    let k = traced-link links batch room l.i l.sources l.tracked.held.now l.tracked.present.now l.invariant c.index-batch-i.result c.loop-i-test.true c.index-batch-i.is
+    (refusal-is _ _ _ (c.in_ok-check.ensures (links_at links batch l.i) l.invariant.tracks.state)) in
+    let n = held-length (weights_of links batch) (links_at links batch l.i) l.tracked.held.now l.tracked.present.now l.invariant.tracks in
+    (k.0, omega (arith, k.1))
 
 pub loop-i-preserved : goal.loop-i-preserved
 loop-i-preserved g c =
@@ -49,9 +48,9 @@ loop-i-preserved g c =
     let batch = c.args.batch.now in
     let l = c.loop-i in
     let room : length links + length batch ≤ nowhere = omega (arith, c.requires.few) in
-    traced-made links batch room l.i l.sources l.held l.present l.invariant c.index-batch-i.result c.loop-i-test.true c.index-batch-i.is
-    (refusal-is _ _ _ (c.in_ok-check_change.ensures (links_at links batch l.i) l.invariant.tracks.state)) c.make_change.result c.make_change.new.held c.make_change.new.present
-    (omega (arith, c.requires.room, l.auto.sources)) c.make_change.ensures.source c.make_change.ensures.held c.make_change.ensures.present
+    traced-made links batch room l.i l.sources l.tracked.held.now l.tracked.present.now l.invariant c.index-batch-i.result c.loop-i-test.true c.index-batch-i.is
+    (refusal-is _ _ _ (c.in_ok-check.ensures (links_at links batch l.i) l.invariant.tracks.state)) c.make.result c.make.new.self.held.now c.make.new.self.present.now
+    (omega (arith, c.requires.room, l.auto.sources)) c.make.ensures.source c.make.ensures.held c.make.ensures.present
 
 pub returns : goal.returns
 returns g c =
@@ -60,6 +59,6 @@ returns g c =
     let l = c.loop-i in
     let room : length links + length batch ≤ nowhere = omega (arith, c.requires.few) in
     record {
-      faults = ap (λ o. unless o tt) (traced-granted links batch room l.i l.sources l.held l.present l.invariant c.loop-i-test.false);
-      pooled = traced-all links batch room l.i l.sources l.held l.present l.invariant c.loop-i-test.false l.auto.i-end (l.auto.sources ∙ c.note_sources.auto.sources ∙ c.requires.room);
+      faults = ap (λ o. unless o tt) (traced-granted links batch room l.i l.sources l.tracked.held.now l.tracked.present.now l.invariant c.loop-i-test.false);
+      pooled = traced-all links batch room l.i l.sources l.tracked.held.now l.tracked.present.now l.invariant c.loop-i-test.false l.auto.i-end (l.auto.sources ∙ c.note_sources.auto.sources ∙ c.requires.room);
     }
