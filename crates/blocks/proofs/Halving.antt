@@ -4,12 +4,12 @@ use mathlib.Core.Path.{fun_ext}
 use borrow.Rule.Slice.PartMut.{put_mid}
 use Rattle.std.proofs.lemmas.Bool.{cases_lt}
 use Rattle.std.proofs.lemmas.List.{get_or-take, get_or-drop, length-take, length-take-le, length-drop, take_rest, take_at, drop_at, drop_all, append-nil, take-append-drop}
-use Rattle.graphs.specs.declared.Link.{Link}
+use Rattle.block_records.specs.declared.Link.{Link}
 use Rattle.graphs.specs.Thin.{Block, thinned, contracted}
 use Rattle.graphs.specs.Thinning.{merges}
 use Rattle.graphs.proofs.Thinned.{thinned-links}
 use Rattle.graphs.proofs.Nodes.{thinned-within, in-thinned}
-use Rattle.plans.specs.declared.Move.{Move}
+use Rattle.block_records.specs.declared.Move.{Move}
 use Rattle.plans.specs.Places.{place_before, moved, moved_by}
 use Rattle.plans.specs.Plan.{entries_by, tree_at, Entry, entry, entries}
 use Rattle.plans.specs.Work.{named, half, thinned_for, block_work}

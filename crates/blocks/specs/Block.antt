@@ -1,8 +1,8 @@
 -- Blocks and batches as they are taken.
 use Rattle.std.specs.Prelude.{◌≡◌, ℕ, ◌<◌, ◌≤◌, List, length, slice_index_or}
-use Rattle.graphs.specs.declared.Link.{Link}
+use Rattle.block_records.specs.declared.Link.{Link}
 use Rattle.graphs.specs.Graph.{In}
-use Rattle.plans.specs.declared.Move.{Move}
+use Rattle.block_records.specs.declared.Move.{Move}
 use Rattle.plans.specs.Work.{work}
 use Rattle.graphs.specs.Thin.{Block}
 use Rattle.thinning.specs.Marks.{Ascends, Numbers}

@@ -1,7 +1,7 @@
 -- What a batch tells as it goes: its work, and the first change after which the forest holds an absent link.
 use Rattle.std.specs.Prelude.{◌≡◌, ℕ, ◌+◌, ◌≤◌, true, false, List, length, nat_lt}
-use Rattle.graphs.specs.declared.Link.{Link}
-use Rattle.plans.specs.declared.Move.{Move}
+use Rattle.block_records.specs.declared.Link.{Link}
+use Rattle.block_records.specs.declared.Move.{Move}
 use Rattle.leaves.specs.declared.tally.Tally.{Tally}
 use Rattle.plans.specs.Tears.{torn_at, first_tear}
 

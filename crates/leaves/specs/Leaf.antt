@@ -1,6 +1,6 @@
 -- A block of one change: what it exchanges on at most two links. And when the least forest holds an absent link.
 use Rattle.std.specs.Prelude.{ℕ, Bool, false, cond, List, [], ◌∷◌, ◌==◌, nat_le}
-use Rattle.graphs.specs.declared.Link.{Link}
+use Rattle.block_records.specs.declared.Link.{Link}
 use Rattle.plans.specs.Places.{place_of, place_before}
 
 -- Whether a link between x and y is between the different nodes a and b.

@@ -1,6 +1,6 @@
 -- What one change tells.
 use Rattle.std.specs.Prelude.{◌≡◌, ℕ, ◌+◌, ◌≤◌, true, false, cond, List}
-use Rattle.graphs.specs.declared.Link.{Link}
+use Rattle.block_records.specs.declared.Link.{Link}
 use Rattle.leaves.specs.declared.tally.Tally.{Tally}
 use Rattle.plans.specs.Tears.{torn_at}
 

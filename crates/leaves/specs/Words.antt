@@ -1,7 +1,7 @@
 -- Moves and entries in tables of words, two words each.
 use Rattle.std.specs.Prelude.{ℕ, ◌+◌, ◌*◌, ◌/◌, List, map, length, slice_index}
 use Rattle.std.specs.List.{range_with_len}
-use Rattle.plans.specs.declared.Move.{Move}
+use Rattle.block_records.specs.declared.Move.{Move}
 use Rattle.plans.specs.Plan.{Entry}
 
 -- What the i-th two words of a table make, counted from 0.

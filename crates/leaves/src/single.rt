@@ -11,8 +11,8 @@ ghost use Rattle.leaves.specs.Telling.{Spoke};
 
 use crate::tally::Tally;
 use forests::{earlier, link_at, place_of};
-use graphs::Link;
-use plans::Move;
+use block_records::Link;
+use block_records::Move;
 
 /// Whether both links are between the same two nodes.
 fn crosses(e: Link, f: Link) -> bool

@@ -2,7 +2,7 @@
 ghost use Rattle.std.specs.Prelude.{◌≡◌, ℕ, ◌/◌, ◌<◌, length, slice_set};
 ghost use Rattle.leaves.specs.Words.{pair_in, move, moves_in, exchange, entries_in};
 
-use plans::Move;
+use block_records::Move;
 
 /// The i-th move of a table, counted from 0.
 pub fn move_at(words: &[u32], i: usize) -> Move<u32>

@@ -1,6 +1,6 @@
 -- New numbers of nodes in a table: node x has the number at word x.
 use Rattle.std.specs.Prelude.{◌≡◌, ℕ, ◌<◌, List, slice_index}
-use Rattle.graphs.specs.declared.Link.{Link}
+use Rattle.block_records.specs.declared.Link.{Link}
 use Rattle.graphs.specs.Thin.{renamed}
 use Rattle.forests.specs.Words.{link}
 

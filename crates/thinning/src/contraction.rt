@@ -1,7 +1,7 @@
 //! Contraction of a block's graph: the links that every moment of the block holds are found, their ends merged and the
 //! merged nodes numbered anew, and then the ends of the links renamed.
 ghost use Rattle.std.specs.Prelude.{◌≡◌, ℕ, ◌-◌, ◌/◌, ◌^◌, ◌<◌, ◌≤◌, List, [], map, length, take};
-ghost use Rattle.graphs.specs.declared.Link.{Link};
+ghost use Rattle.block_records.specs.declared.Link.{Link};
 ghost use Rattle.graphs.specs.Forest.{greedy};
 ghost use Rattle.graphs.specs.Thin.{roots, relabel};
 ghost use Rattle.forests.specs.Words.{links_in};
@@ -10,7 +10,7 @@ ghost use Rattle.thinning.specs.Marks.{Under, Below, marked, stacked};
 ghost use Rattle.thinning.specs.Names.{Renames, through};
 
 use forests::{keep_on, link_at, put_link, start, unite};
-use graphs::{BlockNode, Link};
+use block_records::{BlockNode, Link};
 
 /// Joins the ends of the links.
 fn join_all(links: &[u32], parent: &mut [u32])

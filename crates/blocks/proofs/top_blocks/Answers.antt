@@ -1,7 +1,7 @@
 use Rattle.std.proofs.Common.{◌≡◌, ℕ, ◌+◌, ◌-◌, ◌*◌, ◌/◌, ◌^◌, ◌<◌, ◌≤◌, min, List, length, take, drop, sym, ap, ◌∙◌, subst, arith}
 use Rattle.std.proofs.lemmas.List.{length-drop, length-take-le}
-use Rattle.graphs.specs.declared.Link.{Link}
-use Rattle.plans.specs.declared.Move.{Move}
+use Rattle.block_records.specs.declared.Link.{Link}
+use Rattle.block_records.specs.declared.Move.{Move}
 use Rattle.plans.specs.Work.{block_work}
 use Rattle.forests.specs.Words.{links_in}
 use Rattle.forests.proofs.Packed.{length-links}

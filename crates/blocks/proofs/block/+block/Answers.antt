@@ -1,7 +1,7 @@
 use Rattle.std.proofs.Common.{◌≡◌, ℕ, ◌+◌, ◌-◌, ◌*◌, ◌/◌, ◌^◌, ◌<◌, ◌≤◌, List, ◌++◌, length, get_or, take, drop, sym, refl, ap, ◌∙◌, subst, arith}
 use Rattle.std.proofs.lemmas.List.{length-append, length-drop, length-take-le}
-use Rattle.graphs.specs.declared.Link.{Link}
-use Rattle.plans.specs.declared.Move.{Move}
+use Rattle.block_records.specs.declared.Link.{Link}
+use Rattle.block_records.specs.declared.Move.{Move}
 use Rattle.plans.specs.Places.{moved, moved_by}
 use Rattle.plans.specs.Plan.{tree_at, entry}
 use Rattle.plans.specs.Work.{half, thinned_for, block_work}

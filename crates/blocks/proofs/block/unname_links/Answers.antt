@@ -1,5 +1,5 @@
 use Rattle.std.proofs.Common.{◌≡◌, ℕ, ◌+◌, ◌<◌, true, List, length, get_or, drop, set, sym, ap, ◌∙◌, subst, arith}
-use Rattle.plans.specs.declared.Move.{Move}
+use Rattle.block_records.specs.declared.Move.{Move}
 use Rattle.plans.specs.Work.{named}
 use Rattle.thinning.specs.Marks.{flag}
 use Rattle.blocks.specs.Block.{no_move}

@@ -1,6 +1,6 @@
 use Rattle.std.proofs.Common.{◌≡◌, ℕ, ◌-◌, List, set, sym, ap, ◌∙◌, ap₂}
-use Rattle.graphs.specs.declared.Link.{Link}
-use Rattle.plans.specs.declared.Move.{Move}
+use Rattle.block_records.specs.declared.Link.{Link}
+use Rattle.block_records.specs.declared.Move.{Move}
 use Rattle.plans.specs.Places.{moved}
 use Rattle.forests.specs.Words.{links_in}
 use Rattle.leaves.specs.Leaf.{winner}

@@ -1,5 +1,5 @@
 use Rattle.std.proofs.Common.{◌≡◌, ℕ, ◌/◌, ◌<◌, ◌≤◌, not, map, length, get_or, take, filter}
-use Rattle.graphs.specs.declared.Link.{Link}
+use Rattle.block_records.specs.declared.Link.{Link}
 use Rattle.forests.specs.Words.{link_in, links_in}
 use Rattle.thinning.specs.Marks.{flag}
 use Rattle.thinning.proofs.marks.gather.Given as goal

@@ -1,5 +1,5 @@
 use Rattle.std.proofs.Common.{◌≡◌, ℕ, ◌+◌, ◌<◌, true, List, length, get_or, drop, set, sym, ap, ◌∙◌, subst, arith}
-use Rattle.graphs.specs.declared.Link.{Link}
+use Rattle.block_records.specs.declared.Link.{Link}
 use Rattle.graphs.specs.Thin.{holds}
 use Rattle.forests.specs.Words.{no_link, links_in}
 use Rattle.forests.proofs.Packed.{length-links, links-at}

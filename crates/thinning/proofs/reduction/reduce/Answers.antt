@@ -1,5 +1,5 @@
 use Rattle.std.proofs.Common.{◌≡◌, ℕ, ◌-◌, ◌*◌, List, [], length, take, sym, ap, ◌∙◌, arith}
-use Rattle.graphs.specs.declared.Link.{Link}
+use Rattle.block_records.specs.declared.Link.{Link}
 use Rattle.graphs.specs.Forest.{greedy, ordered}
 use Rattle.forests.specs.Words.{links_in}
 use Rattle.forests.proofs.Packed.{links-front}
