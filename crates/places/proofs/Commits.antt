@@ -33,9 +33,6 @@ pub changed-none : {W : Type 0} (links : List (LinkState W)) (batch : List (Chan
 unfolding changed_by
 changed-none links batch = refl
 
-pub changed-all : {W : Type 0} (links : List (LinkState W)) (batch : List (Change W)) (i : ℕ) → length batch ≤ i → changed_by links (take i batch) ≡ changed_by links batch
-changed-all {W} links batch i l = ap (λ (cs : List (Change W)). changed_by links cs) (take_all i batch l)
-
 pub changed-length : {W : Type 0} (links : List (LinkState W)) (batch : List (Change W)) → length (changed_by links batch) ≡ length links
 unfolding changed_by
 changed-length links [] = refl
