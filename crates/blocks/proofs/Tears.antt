@@ -2,13 +2,13 @@
 use Rattle.std.proofs.Common.{◌≡◌, ℕ, suc, ◌+◌, ◌<◌, ◌≤◌, true, false, cond, eqb, ltb, leb, List, [], ◌∷◌, ◌++◌, length, sym, refl, ap, ◌∙◌, subst, inl, inr, arith}
 use Rattle.std.proofs.lemmas.Bool.{cases_Bool, both_ways, or_cases, or_left, or_right, eqb-true, leb-true, leb-false, cond-true, cond-false}
 use Rattle.std.proofs.lemmas.Bool.Decides.{nat_tests}
-use Rattle.graphs.specs.declared.Link.{Link}
+use Rattle.block_records.specs.declared.Link.{Link}
 use Rattle.graphs.specs.Thin.{Block, holds, reduced}
 use Rattle.graphs.specs.Thinning.{merges}
 use Rattle.graphs.specs.Graph.{In}
 use Rattle.graphs.proofs.Walks.{in-holds, holds-in}
 use Rattle.graphs.proofs.Contract.{in-mergeable}
-use Rattle.plans.specs.declared.Move.{Move}
+use Rattle.block_records.specs.declared.Move.{Move}
 use Rattle.plans.specs.Places.{place_of, place_before, moved, moved_by}
 use Rattle.plans.specs.Plan.{forest_at, tree_at, among}
 use Rattle.plans.specs.Work.{named, thinned_for}

@@ -14,7 +14,7 @@ use Rattle.graphs.specs.Spanning.{AllJoined}
 use Rattle.graphs.proofs.Joined.{joins-joined, joined-joins, joined-mono}
 use Rattle.graphs.proofs.Lists.{filtered-sub}
 use Rattle.graphs.proofs.Trees.{all-joined}
-use Rattle.plans.specs.declared.Move.{Move}
+use Rattle.block_records.specs.declared.Move.{Move}
 use Rattle.plans.specs.Network.{Sided, graph_of, present_links, standings, link_of, changed, moves_of, plan, work_count, parted_at}
 use Rattle.plans.specs.Plan.{entries}
 use Rattle.plans.specs.Same.{pool, movers, Faithful, AbsentAt}

@@ -5,7 +5,7 @@ use Rattle.std.proofs.lemmas.List.{get_or-take, length-take-le}
 use Rattle.weights.specs.declared.order.Side.{Side}
 use Rattle.network.specs.declared.types.Ends.{Ends}
 use Rattle.network.specs.declared.types.LinkState.{LinkState}
-use Rattle.graphs.specs.declared.Link.{Link}
+use Rattle.block_records.specs.declared.Link.{Link}
 use Rattle.graphs.specs.Graph.{In}
 use Rattle.graphs.specs.Forest.{Distinct}
 use Rattle.graphs.specs.Spanning.{Within, all_joined}

@@ -5,7 +5,7 @@ use Rattle.std.specs.Cmp.{IsStrictWeakOrder}
 use Rattle.std.proofs.lemmas.List.{take_more, take_more_set, take_all, map-append, get_or-map, get_or-take, length-take-le}
 use Rattle.std.proofs.lemmas.Bool.{cond_both}
 use Rattle.std.proofs.lemmas.Bool.Decides.{nat_tests}
-use Rattle.graphs.specs.declared.Link.{Link}
+use Rattle.block_records.specs.declared.Link.{Link}
 use Rattle.graphs.specs.Graph.{In, here, later}
 use Rattle.graphs.specs.Forest.{Distinct, placed, ordered}
 use Rattle.graphs.proofs.Orders.{strict-ltb}

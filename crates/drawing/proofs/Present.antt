@@ -6,7 +6,7 @@ use Rattle.weights.specs.declared.standing.Standing.{Standing}
 use Rattle.weights.specs.declared.standing.Standing.TheVariants.{Absent}
 use Rattle.network.specs.declared.types.Ends.{Ends}
 use Rattle.network.specs.declared.types.LinkState.{LinkState}
-use Rattle.graphs.specs.declared.Link.{Link}
+use Rattle.block_records.specs.declared.Link.{Link}
 use Rattle.graphs.specs.Graph.{In, here, later}
 use Rattle.graphs.specs.Forest.{Distinct, ordered, filtered}
 use Rattle.graphs.proofs.Lists.{filtered-sub, filtered-distinct, ordered-in}

@@ -8,9 +8,9 @@ use Rattle.faults.specs.declared.DrawFault.TheVariants.{Parted}
 use Rattle.network.specs.declared.types.Ends.{Ends}
 use Rattle.network.specs.declared.types.Change.{Change}
 use Rattle.network.specs.Ends.{first_end_fault}
-use Rattle.graphs.specs.declared.Link.{Link}
+use Rattle.block_records.specs.declared.Link.{Link}
 use Rattle.graphs.proofs.Lists.{Sorted}
-use Rattle.plans.specs.declared.Move.{Move}
+use Rattle.block_records.specs.declared.Move.{Move}
 use Rattle.plans.specs.Network.{graph_from, graph_of}
 use Rattle.plans.proofs.Standings.{faultless-within, graph-length, graph-numbers, graph-sorted}
 use Rattle.forests.specs.Words.{link}

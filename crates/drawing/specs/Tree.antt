@@ -1,6 +1,6 @@
 -- Present links by index, and the links of indexes.
 use Rattle.std.specs.Prelude.{ℕ, suc, ◌+◌, ◌<◌, cond, List, [], ◌∷◌, length, slice_index_or}
-use Rattle.graphs.specs.declared.Link.{Link}
+use Rattle.block_records.specs.declared.Link.{Link}
 use Rattle.network.specs.declared.types.Ends.{Ends}
 use Rattle.network.specs.declared.types.LinkState.{LinkState}
 

@@ -15,7 +15,7 @@ use crate::tree::lay_out;
 use faults::DrawFault;
 use network::{Change, Ends, LinkState};
 use places::{link_of, place_pool, trace};
-use plans::Move;
+use block_records::Move;
 use weights::Ordered;
 
 /// Writes the moves of a batch: each change's link and its place after it.

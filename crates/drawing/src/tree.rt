@@ -9,7 +9,7 @@ ghost use Rattle.drawing.specs.Tables.{fronted, tables_fault, joined};
 ghost use Rattle.drawing.specs.Tree.{present_indexes, link_at, EndsUnder};
 
 use crate::ranks::{ByNumber, ByStanding};
-use graphs::{BlockNode, Link};
+use block_records::{BlockNode, Link};
 use network::{Ends, LinkState};
 use weights::Ordered;
 

@@ -1,7 +1,7 @@
 -- The classes that a table of parents holds.
 use Rattle.std.proofs.Common.{◌≡◌, ℕ, ◌<◌, ◌≤◌, min, max, ◌≢◌, List, [], ◌∷◌, length, get_or, set, sym, refl, ap, ◌∙◌, arith}
 use Rattle.std.proofs.lemmas.Bool.Decides.{nat_tests}
-use Rattle.graphs.specs.declared.Link.{Link}
+use Rattle.block_records.specs.declared.Link.{Link}
 use Rattle.graphs.specs.Graph.{label, merged}
 use Rattle.forests.specs.Union.{Falls, Holds}
 use Rattle.forests.proofs.Table.{set-each}
@@ -72,9 +72,6 @@ holds-hung e es ps lo hi lt apart mn mx h =
       same = set-each ps hi lo (λ y v. label (e ∷ es) v ≡ label (e ∷ es) y) lt (λ y l _. ap (merged p q) (h.same y l)) (grind (arith, nat_tests));
       top = set-each ps hi lo (λ y v. v ≡ y → label (e ∷ es) y ≡ y) lt (λ y l ne t. let k = h.top y l t in grind (arith, nat_tests)) (λ t. absurd (omega arith));
     }
-
-pub hung-falls : (ps : List ℕ) (lo hi : ℕ) → hi < length ps → lo < hi → Falls ps → Falls (set ps hi lo)
-hung-falls ps lo hi lt apart f = set-each ps hi lo (λ y v. v ≤ y) lt (λ y l _. f y l) (omega arith)
 
 -- A link whose ends are joined can be left out.
 pub holds-without : (e : Link) (es : List Link) (ps : List ℕ) → label es e.a.0 ≡ label es e.b.0 → Holds (e ∷ es) ps → Holds es ps

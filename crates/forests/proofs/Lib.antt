@@ -1,5 +1,3 @@
-pub mod Counts
-pub mod Packed
 pub mod Table
 pub mod Classes
 pub mod Greedy

@@ -1,3 +1,4 @@
 pub mod Words
 pub mod Union
 pub mod Heap
+pub mod Ranks

@@ -1,6 +1,6 @@
 -- A table of parents that holds the classes of nodes that links join.
 use Rattle.std.specs.Prelude.{◌≡◌, ℕ, zero, suc, ◌<◌, ◌≤◌, cond, List, length, ◌==◌, slice_index, slice_index_or}
-use Rattle.graphs.specs.declared.Link.{Link}
+use Rattle.block_records.specs.declared.Link.{Link}
 use Rattle.graphs.specs.Graph.{label}
 
 -- No node's parent is above it.

@@ -1,27 +1,27 @@
-//! Kruskal's greedy choice over links in words: of links in order, those whose ends are not yet joined.
-ghost use Rattle.std.specs.Prelude.{◌≡◌, ℕ, ◌/◌, ◌^◌, ◌≤◌, List, [], length, take};
-ghost use Rattle.graphs.specs.declared.Link.{Link};
+//! Kruskal's greedy choice over links in a table: of links in order, those whose ends are not yet joined.
+ghost use Rattle.std.specs.Prelude.{◌≡◌, ℕ, ◌^◌, ◌≤◌, List, [], length, take};
+ghost use Rattle.block_records.specs.declared.Link.{Link};
 ghost use Rattle.graphs.specs.Forest.{greedy};
-ghost use Rattle.forests.specs.Words.{links_in};
+ghost use Rattle.block_records.specs.Words.{links_in};
 ghost use Rattle.forests.specs.Union.{Falls, Holds, Ends};
 
 use crate::union_find::{start, unite};
-use crate::words::{link_at, put_link};
+use block_records::Link;
 
 /// Of links in order keeps those whose ends the classes and the kept ones before do not yet join, brings them to the
 /// front, and says how many they are.
-pub fn keep_on(links: &mut [u32], parent: &mut [u32]) -> usize
+pub fn keep_on(links: &mut [[u32; 3]], parent: &mut [u32]) -> usize
     requires falls { Falls parent.old }
     requires ends { Ends (length parent.old) (links_in links.old) }
-    ensures within { result ≤ length links.old / 3 }
+    ensures within { result ≤ length links.old }
     ensures kept { (K : List Link) → Holds K parent.old → take result (links_in links.new) ≡ greedy K (links_in links.old) }
 {
-    let n = links.len() / 3;
     let mut k = 0;
-    for i in 0..n {
-        let e = link_at(links, i);
-        if unite(parent, e.a.0, e.b.0) {
-            put_link(links, k, e);
+    // By index: the links kept are written into the table that is read.
+    for i in 0..links.len() {
+        let link = Link::from(links[i]);
+        if unite(parent, link.a.0, link.b.0) {
+            links[k] = links[i];
             k += 1;
         }
     }
@@ -30,10 +30,10 @@ pub fn keep_on(links: &mut [u32], parent: &mut [u32]) -> usize
 
 /// Of links in order keeps those whose ends the kept ones before do not yet join, brings them to the front, and says how
 /// many they are.
-pub fn keep(links: &mut [u32], parent: &mut [u32]) -> usize
+pub fn keep(links: &mut [[u32; 3]], parent: &mut [u32]) -> usize
     requires size { length parent.old ≤ 2 ^ 32 }
     requires ends { Ends (length parent.old) (links_in links.old) }
-    ensures within { result ≤ length links.old / 3 }
+    ensures within { result ≤ length links.old }
     ensures kept { take result (links_in links.new) ≡ greedy [] (links_in links.old) }
 {
     start(parent);

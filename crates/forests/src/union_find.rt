@@ -1,7 +1,7 @@
 //! Union-find over a lent table of parents: the classes of nodes that links join. A class is named by its smallest node,
 //! which alone is its own parent.
 ghost use Rattle.std.specs.Prelude.{◌≡◌, ℕ, ◌^◌, ◌<◌, ◌≤◌, not, List, [], ◌∷◌, length, slice_index};
-ghost use Rattle.graphs.specs.declared.Link.{Link};
+ghost use Rattle.block_records.specs.declared.Link.{Link};
 ghost use Rattle.graphs.specs.Graph.{label, joins};
 ghost use Rattle.forests.specs.Union.{Falls, Holds, RootsAreLabels};
 
@@ -48,8 +48,8 @@ pub fn start(parent: &mut [u32])
     requires { length parent.old ≤ 2 ^ 32 }
     ensures { Holds [] parent.new }
 {
-    for i in 0..parent.len() {
-        parent[i] = i as u32;
+    for (x, up) in parent.iter_mut().enumerate() {
+        *up = x as u32;
     }
 }
 

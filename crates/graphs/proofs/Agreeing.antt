@@ -1,6 +1,6 @@
 -- Orders that agree on the numbers of some links give them the same forest, and the same thinned graph.
 use Rattle.std.proofs.Common.{◌≡◌, ℕ, Bool, true, false, cond, not, ltb, List, [], ◌∷◌, refl, ap, ◌∙◌, ap₂}
-use Rattle.graphs.specs.declared.Link.{Link}
+use Rattle.block_records.specs.declared.Link.{Link}
 use Rattle.graphs.specs.Graph.{In, here, later}
 use Rattle.graphs.specs.Forest.{placed, ordered, greedy, forest, filtered}
 use Rattle.graphs.specs.Thin.{Block, holds, either, reduced, named_first, mergeable, roots, relabel, contracted, thinned}

@@ -1,7 +1,7 @@
 -- The contraction: merged links are always in the least forest, and it changes no other link's place in or out.
 use Rattle.std.proofs.Common.{◌≡◌, ℕ, Bool, true, false, cond, not, ◌||◌, eqb, List, ◌++◌, refl, ap, ◌∙◌, inl, inr}
 use Rattle.std.proofs.lemmas.Bool.{cases_Bool, both_ways, not-true, not_from_false, ne_eqb, eqb-false, or_cases, or_left, or_right}
-use Rattle.graphs.specs.declared.Link.{Link}
+use Rattle.block_records.specs.declared.Link.{Link}
 use Rattle.graphs.specs.Graph.{In, Walk}
 use Rattle.graphs.specs.Forest.{Strict, forest, filtered, befores}
 use Rattle.graphs.specs.Thin.{holds, named_first, mergeable, relabel}

@@ -2,7 +2,7 @@
 use Rattle.std.proofs.Common.{◌≡◌, ℕ, ◌≤◌, true, eqb, ◌⊎◌, List, [], ◌∷◌, sym, refl, ap, ◌∙◌, subst, ap₂, inl, inr, arith}
 use Rattle.std.proofs.lemmas.Bool.{cases_eq, eqb-true, eq-eqb}
 use Rattle.std.proofs.lemmas.Bool.Decides.{nat_tests}
-use Rattle.graphs.specs.declared.Link.{Link}
+use Rattle.block_records.specs.declared.Link.{Link}
 use Rattle.graphs.specs.Graph.{merged, label, joins, In, here, later, Walk, stay, along, back}
 
 infix 4 ◌⊆◌

@@ -1,7 +1,7 @@
 -- The greedy forest: what it joins, that it is loop-free, and which links are in it.
 use Rattle.std.proofs.Common.{◌≡◌, ℕ, Bool, true, false, eqb, ◌⊎◌, ◌↔◌, List, [], ◌∷◌, refl, subst, inl, inr}
 use Rattle.std.proofs.lemmas.Bool.{cond_both, both_ways, eq-eqb, eqb-true, or_cases, or_left, or_right}
-use Rattle.graphs.specs.declared.Link.{Link}
+use Rattle.block_records.specs.declared.Link.{Link}
 use Rattle.graphs.specs.Graph.{joins, In, here, later}
 use Rattle.graphs.specs.Forest.{Strict, Distinct, filtered, LoopFree, ordered, greedy, forest, before, upto, befores}
 use Rattle.graphs.proofs.Joined.{◌⊆◌, Spans, Joined, joined_in, joined-mono, joined-spans, joins-joined}

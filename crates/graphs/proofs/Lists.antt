@@ -1,7 +1,7 @@
 -- Membership: sifted links, links in order, links by number.
 use Rattle.std.proofs.Common.{◌≡◌, ℕ, Bool, true, false, not, eqb, ◌≢◌, ◌⊎◌, List, [], ◌∷◌, sym, refl, inl, inr}
 use Rattle.std.proofs.lemmas.Bool.{cases_eq, cond_both, eqb-false, ne_eqb, both_ways, not-true, not_from_false}
-use Rattle.graphs.specs.declared.Link.{Link}
+use Rattle.block_records.specs.declared.Link.{Link}
 use Rattle.graphs.specs.Graph.{In, here, later}
 use Rattle.graphs.specs.Forest.{Strict, Distinct, placed, ordered, filtered, others}
 use Rattle.graphs.proofs.Joined.{◌⊆◌}

@@ -1,7 +1,7 @@
 -- Loop-free links.
 use Rattle.std.proofs.Common.{◌≡◌, ℕ, false, not, eqb, ◌≢◌, List, [], ◌∷◌, sym, refl, inl, inr}
 use Rattle.std.proofs.lemmas.Bool.{both_ways, ne_eqb}
-use Rattle.graphs.specs.declared.Link.{Link}
+use Rattle.block_records.specs.declared.Link.{Link}
 use Rattle.graphs.specs.Graph.{label, joins, In, here, later}
 use Rattle.graphs.specs.Forest.{Distinct, others, LoopFree}
 use Rattle.graphs.proofs.Joined.{◌⊆◌, Joined, joined-or, joined-sym, joined-trans, joined_in, joined-mono, joined-joins}

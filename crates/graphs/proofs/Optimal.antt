@@ -1,6 +1,6 @@
 -- The greedy forest is the least: what it joins, and how it stands against other loop-free links.
 use Rattle.std.proofs.Common.{◌≡◌, ℕ, ◌≤◌, Bool, true, List, length}
-use Rattle.graphs.specs.declared.Link.{Link}
+use Rattle.block_records.specs.declared.Link.{Link}
 use Rattle.graphs.specs.Graph.{joins}
 use Rattle.graphs.specs.Forest.{Strict, Distinct, LoopFree, filtered, forest, upto, uptos}
 use Rattle.graphs.proofs.Joined.{◌⊆◌, joined_in, joins-spans}

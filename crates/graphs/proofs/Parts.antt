@@ -1,7 +1,7 @@
 -- Links in order are told by their members; and the least forest of a part of the links.
 use Rattle.std.proofs.Common.{◌≡◌, ℕ, Bool, true, ◌⊎◌, List, [], ◌∷◌, sym, refl, subst, ap₂, inl, inr}
 use Rattle.std.proofs.lemmas.Bool.{both_ways}
-use Rattle.graphs.specs.declared.Link.{Link}
+use Rattle.block_records.specs.declared.Link.{Link}
 use Rattle.graphs.specs.Graph.{In, here, later}
 use Rattle.graphs.specs.Forest.{Strict, Distinct, filtered, forest, before}
 use Rattle.graphs.proofs.Joined.{◌⊆◌, joined-mono}

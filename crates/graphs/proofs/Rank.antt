@@ -1,6 +1,6 @@
 -- Loop-free links, and how many there are.
 use Rattle.std.proofs.Common.{◌≡◌, ℕ, suc, ◌≤◌, ◌≢◌, ◌⊎◌, List, [], ◌∷◌, ◌++◌, length, sym, refl, ap, inl, inr, arith}
-use Rattle.graphs.specs.declared.Link.{Link}
+use Rattle.block_records.specs.declared.Link.{Link}
 use Rattle.graphs.specs.Graph.{In, here, later, Walk}
 use Rattle.graphs.specs.Forest.{Distinct, LoopFree}
 use Rattle.graphs.proofs.Joined.{◌⊆◌, Spans, joined-walk, walk-joined, walk-trans, walk-sym, walk-mono, walk-dec, walk-or}

@@ -1,7 +1,7 @@
 -- The reduction: links that it drops are never in the least forest, and it changes no other link's place in or out.
 use Rattle.std.proofs.Common.{◌≡◌, ℕ, Bool, true, false, not, ◌⊎◌, List, sym, refl, ap, ◌∙◌, inl, inr}
 use Rattle.std.proofs.lemmas.Bool.{cases_Bool, not-true, not_from_false}
-use Rattle.graphs.specs.declared.Link.{Link}
+use Rattle.block_records.specs.declared.Link.{Link}
 use Rattle.graphs.specs.Graph.{In, Walk}
 use Rattle.graphs.specs.Forest.{Strict, forest, befores}
 use Rattle.graphs.specs.Thin.{holds, either, reduced}

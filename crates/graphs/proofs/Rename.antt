@@ -1,7 +1,7 @@
 -- Merged nodes: new nodes are joined exactly if the old ones are, with the merged links.
 use Rattle.std.proofs.Common.{◌≡◌, ℕ, zero, suc, ◌<◌, ◌≤◌, Bool, true, false, cond, eqb, List, [], ◌∷◌, ◌++◌, length, sym, refl, ap, ◌∙◌, inl, inr, arith}
 use Rattle.std.proofs.lemmas.Bool.{cases_lt, cases_order, eq-eqb, eqb-true}
-use Rattle.graphs.specs.declared.Link.{Link}
+use Rattle.block_records.specs.declared.Link.{Link}
 use Rattle.graphs.specs.Graph.{label, In, here, later, Walk, stay, along, back}
 use Rattle.graphs.specs.Forest.{Distinct, filtered}
 use Rattle.graphs.specs.Thin.{roots, renamed, relabel}

@@ -1,7 +1,7 @@
 -- A thinned graph has at most as many links that are not named as links that are.
 use Rattle.std.proofs.Common.{◌≡◌, ℕ, suc, ◌+◌, ◌*◌, ◌≤◌, Bool, false, not, ◌||◌, eqb, List, [], ◌∷◌, ◌++◌, length, sym, refl, ap, ◌∙◌, inl, inr, arith}
 use Rattle.std.proofs.lemmas.Bool.{eqb-true, cases_Bool, both_ways, not-true, not_from_false}
-use Rattle.graphs.specs.declared.Link.{Link}
+use Rattle.block_records.specs.declared.Link.{Link}
 use Rattle.graphs.specs.Graph.{In, here, later, Walk}
 use Rattle.graphs.specs.Forest.{Strict, Distinct, placed, ordered, greedy, forest, filtered}
 use Rattle.graphs.specs.Thin.{Block, holds, either, reduced, named_first, mergeable, relabel, contracted, thinned}

@@ -1,7 +1,7 @@
 -- The least forest, by walks: which links it keeps, that it spans, and that it has no loop.
 use Rattle.std.proofs.Common.{◌≡◌, ℕ, Bool, true, false, not, ◌⊎◌, List, refl, inl, inr}
 use Rattle.std.proofs.lemmas.Bool.{cases_Bool, both_ways, not-true, not_from_false}
-use Rattle.graphs.specs.declared.Link.{Link}
+use Rattle.block_records.specs.declared.Link.{Link}
 use Rattle.graphs.specs.Graph.{In, Walk}
 use Rattle.graphs.specs.Forest.{Strict, filtered, forest, befores}
 use Rattle.graphs.specs.Thin.{holds}

@@ -1,7 +1,7 @@
 -- Walks carried over to other links, and members of lists of links.
 use Rattle.std.proofs.Common.{◌≡◌, ℕ, Bool, true, false, eqb, ◌⊎◌, List, [], ◌∷◌, ◌++◌, sym, refl, ◌∙◌, inl, inr}
 use Rattle.std.proofs.lemmas.Bool.{cases_Bool, both_ways, cond_both, eqb-true, eq-eqb}
-use Rattle.graphs.specs.declared.Link.{Link}
+use Rattle.block_records.specs.declared.Link.{Link}
 use Rattle.graphs.specs.Graph.{In, here, later, Walk, stay, along, back}
 use Rattle.graphs.specs.Forest.{Distinct, filtered}
 use Rattle.graphs.specs.Thin.{holds}

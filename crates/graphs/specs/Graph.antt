@@ -1,6 +1,6 @@
 -- Links as a graph: which nodes they join.
 use Rattle.std.specs.Prelude.{ℕ, min, max, Bool, cond, List, [], ◌∷◌, ◌==◌}
-use Rattle.graphs.specs.declared.Link.{Link}
+use Rattle.block_records.specs.declared.Link.{Link}
 
 -- The label p or q, whichever is larger, becomes the smaller one; every other label stays.
 abbrev pub merged : ℕ → ℕ → ℕ → ℕ

@@ -1,6 +1,6 @@
 -- Links that join all nodes, and spanning trees.
 use Rattle.std.specs.Prelude.{◌≡◌, ℕ, zero, suc, ◌≤◌, Bool, true, ◌&&◌, List}
-use Rattle.graphs.specs.declared.Link.{Link}
+use Rattle.block_records.specs.declared.Link.{Link}
 use Rattle.graphs.specs.Graph.{joins, In}
 use Rattle.graphs.specs.Forest.{Distinct, LoopFree}
 

@@ -1,6 +1,6 @@
 -- What is proved of links, forests and thinning, as statements.
 use Rattle.std.specs.Prelude.{◌≡◌, ℕ, suc, ◌+◌, ◌*◌, ◌≤◌, Bool, true, false, ◌↔◌, List, length}
-use Rattle.graphs.specs.declared.Link.{Link}
+use Rattle.block_records.specs.declared.Link.{Link}
 use Rattle.graphs.specs.Graph.{label, joins, In, Walk}
 use Rattle.graphs.specs.Forest.{Strict, Distinct, LoopFree, forest, befores, uptos}
 use Rattle.graphs.specs.Spanning.{Within, AllJoined, all_joined, SpanningTree}

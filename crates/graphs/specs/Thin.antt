@@ -1,6 +1,6 @@
 -- A block's graph, and how it is thinned.
 use Rattle.std.specs.Prelude.{ℕ, zero, suc, Bool, true, false, cond, not, List, [], ◌∷◌, ◌==◌, nat_lt}
-use Rattle.graphs.specs.declared.Link.{Link}
+use Rattle.block_records.specs.declared.Link.{Link}
 use Rattle.graphs.specs.Graph.{label}
 use Rattle.graphs.specs.Forest.{forest, filtered}
 

@@ -1,6 +1,6 @@
 -- What thinning keeps and what it merges, orders that differ in the named links only, and what changes between their least forests.
 use Rattle.std.specs.Prelude.{◌≡◌, ℕ, Bool, true, false, not, ◌≢◌, List}
-use Rattle.graphs.specs.declared.Link.{Link}
+use Rattle.block_records.specs.declared.Link.{Link}
 use Rattle.graphs.specs.Forest.{filtered}
 use Rattle.graphs.specs.Thin.{Block, holds, reduced, mergeable, renamed, with_ends}
 

@@ -4,19 +4,6 @@
 
 ghost use Rattle.graphs.specs.Theorems.{JoinsDecided, ForestKept, LinksCounted, LoopFreeFew, ForestLeast, TreesSpanning, ThinningKeeps};
 
-/// A node of a block's graph, numbered from 1. A count of its own: a network's node has another type, and the
-/// renaming table alone leads from one to the other.
-#[derive(Clone, Copy)]
-pub struct BlockNode(pub u32);
-
-/// A link of a block's graph: its number in the network and its two end nodes.
-#[derive(Clone, Copy)]
-pub struct Link {
-    pub number: u32,
-    pub a: BlockNode,
-    pub b: BlockNode,
-}
-
 /// Two nodes are joined exactly if a walk leads from one to the other, and a node's label is the smallest joined to it.
 pub fn joins_decided()
     ensures { JoinsDecided }

@@ -1,17 +1,17 @@
 -- The entry of a change on at most two links.
-use Rattle.std.proofs.Common.{◌≡◌, ℕ, zero, suc, ◌-◌, ◌<◌, ◌≤◌, Bool, true, false, cond, ◌||◌, eqb, ltb, List, [], ◌∷◌, ◌++◌, map, length, get_or, set, sym, refl, ap, ◌∙◌, ap₂, inl, inr, arith}
+use Rattle.std.proofs.Common.{◌≡◌, ℕ, zero, suc, ◌-◌, ◌<◌, ◌≤◌, Bool, true, false, cond, ◌||◌, eqb, ltb, List, [], ◌∷◌, ◌++◌, map, length, set, Some, None, sym, refl, ap, ◌∙◌, ap₂, inl, inr, arith}
 use Rattle.std.proofs.lemmas.Bool.{cases_eq, cases_Bool, cond-true, cond-false, both_ways, eq-eqb, ne_eqb}
 use Rattle.std.proofs.lemmas.Bool.Decides.{nat_tests}
-use Rattle.graphs.specs.declared.Link.{Link}
+use Rattle.block_records.specs.declared.Link.{Link}
 use Rattle.graphs.specs.Graph.{label, merged, here}
 use Rattle.graphs.specs.Forest.{greedy, ordered, placed}
-use Rattle.plans.specs.declared.Move.{Move}
+use Rattle.block_records.specs.declared.Move.{Move}
 use Rattle.plans.specs.Places.{place_before, placed_at, moved}
 use Rattle.plans.specs.Plan.{tree_at, numbers, among, first_but, Entry, entry}
 use Rattle.plans.proofs.Ascending.{first-or}
 use Rattle.thinning.specs.Marks.{Ascends}
-use Rattle.forests.specs.Words.{no_link}
-use Rattle.leaves.specs.Leaf.{crossing, winner}
+use Rattle.block_records.specs.Words.{link_in, links_in}
+use Rattle.leaves.specs.Leaf.{crossing, winner, leader}
 
 -- Two links between the same nodes,
 pub cross-true : (a b x y : ℕ) → crossing a b x y ≡ true
@@ -145,21 +145,48 @@ placed-write ps (suc k) p h = let e : suc k - 1 ≡ k = omega arith in rw e
 pub moved-is : (ps : List ℕ) (c : Move ℕ) → 1 ≤ c.link → set ps (c.link - 1) c.to ≡ moved ps c
 moved-is ps c h = placed-write ps c.link c.to h
 
--- What the code reads of two links.
-pub winner-few : (ps : List ℕ) (es : List Link) → length es < 2 → 0 ≡ winner ps es
-unfolding winner
-winner-few ps [] l = refl
-winner-few ps (e ∷ []) l = refl
-winner-few ps (e ∷ f ∷ es) l = absurd (omega arith)
+-- What the code reads of a table of at most two links.
+pub leader-few : (ps : List ℕ) (t : List (List ℕ)) → length t < 2 → None ≡ leader ps (links_in t)
+unfolding leader
+leader-few ps [] l = refl
+leader-few ps (v ∷ []) l = refl
+leader-few ps (v ∷ w ∷ t) l = absurd (omega arith)
 
-pub winner-two : (ps : List ℕ) (es : List Link) (e f : Link) → get_or es 0 no_link ≡ e → get_or es 1 no_link ≡ f → 2 ≤ length es → length es ≤ 2
-    → winner ps es ≡ cond (crossing e.a.0 e.b.0 f.a.0 f.b.0) (cond (place_before ps e.number f.number) e.number f.number) 0
-unfolding winner
-winner-two ps [] e f x y l m = absurd (omega arith)
-winner-two ps (g ∷ []) e f x y l m = absurd (omega arith)
-winner-two ps (g ∷ h ∷ []) e f x y l m =
-    ap₂ (λ (e f : Link). cond (crossing e.a.0 e.b.0 f.a.0 f.b.0) (cond (place_before ps e.number f.number) e.number f.number) 0) x y
-winner-two ps (g ∷ h ∷ k ∷ es) e f x y l m = absurd (omega arith)
+pub leader-two : (ps : List ℕ) (t : List (List ℕ)) (e f : Link) → e ≡ link_in t 0 → f ≡ link_in t 1 → 2 ≤ length t → length t ≤ 2
+    → leader ps (links_in t) ≡ cond (crossing e.a.0 e.b.0 f.a.0 f.b.0) (Some (cond (place_before ps e.number f.number) e f)) None
+unfolding leader
+leader-two ps [] e f x y l m = absurd (omega arith)
+leader-two ps (v ∷ []) e f x y l m = absurd (omega arith)
+leader-two ps (v ∷ w ∷ []) e f x y l m =
+    ap₂ (λ (e f : Link). cond (crossing e.a.0 e.b.0 f.a.0 f.b.0) (Some (cond (place_before ps e.number f.number) e f)) None) (sym x) (sym y)
+leader-two ps (u ∷ v ∷ w ∷ t) e f x y l m = absurd (omega arith)
+
+-- The winner is the leader's number.
+pub winner_none : (ps : List ℕ) (es : List Link) → leader ps es ≡ None → 0 ≡ winner ps es
+unfolding leader winner
+winner_none ps [] h = refl
+winner_none ps (e ∷ []) h = refl
+winner_none ps (e ∷ f ∷ []) h = elim (cases_Bool (crossing e.a.0 e.b.0 f.a.0 f.b.0)) [
+  | inl t ↦ absurd (let q = sym (cond-true _ _ _ t) ∙ h in let z : ◌≡◌ {A = ℕ} 0 1 = cc in omega arith)
+  | inr t ↦ sym (cond-false _ _ _ t)
+]
+winner_none ps (e ∷ f ∷ g ∷ es) h = refl
+
+pub winner_some : (ps : List ℕ) (es : List Link) (x : Link) → leader ps es ≡ Some x → x.number ≡ winner ps es
+unfolding leader winner
+winner_some ps [] x h = absurd (let z : ◌≡◌ {A = ℕ} 0 1 = cc in omega arith)
+winner_some ps (e ∷ []) x h = absurd (let z : ◌≡◌ {A = ℕ} 0 1 = cc in omega arith)
+winner_some ps (e ∷ f ∷ []) x h = elim (cases_Bool (crossing e.a.0 e.b.0 f.a.0 f.b.0)) [
+  | inl t ↦
+      let q = sym (cond-true _ _ _ t) ∙ h in
+      let p : cond (place_before ps e.number f.number) e f ≡ x = cc in
+      elim (cases_Bool (place_before ps e.number f.number)) [
+        | inl u ↦ ap (λ (y : Link). y.number) (sym (sym (cond-true _ _ _ u) ∙ p)) ∙ sym (cond-true _ _ _ t ∙ cond-true _ _ _ u)
+        | inr u ↦ ap (λ (y : Link). y.number) (sym (sym (cond-false _ _ _ u) ∙ p)) ∙ sym (cond-true _ _ _ t ∙ cond-false _ _ _ u)
+      ]
+  | inr t ↦ absurd (let q = sym (cond-false _ _ _ t) ∙ h in let z : ◌≡◌ {A = ℕ} 0 1 = cc in omega arith)
+]
+winner_some ps (e ∷ f ∷ g ∷ es) x h = absurd (let z : ◌≡◌ {A = ℕ} 0 1 = cc in omega arith)
 
 pub told-level : (x y : ℕ) → x ≡ y → (0, 0) ≡ told x y
 unfolding told

@@ -1,14 +1,15 @@
 -- Whether the least forest of at most two links holds a late one.
-use Rattle.std.proofs.Common.{◌≡◌, ℕ, ◌≤◌, Bool, true, false, cond, ◌||◌, eqb, ltb, leb, List, [], ◌∷◌, ◌++◌, map, length, get_or, sym, refl, ap, ◌∙◌, subst, ap₂, arith}
-use Rattle.std.proofs.lemmas.Bool.{cond-true, cond-false}
-use Rattle.graphs.specs.declared.Link.{Link}
+use Rattle.std.proofs.Common.{◌≡◌, ℕ, ◌≤◌, Bool, true, false, cond, ◌||◌, eqb, ltb, leb, List, [], ◌∷◌, ◌++◌, map, length, Some, None, sym, refl, ap, ◌∙◌, inl, inr, arith}
+use Rattle.std.proofs.lemmas.Bool.{cases_Bool, cond-true, cond-false}
+use Rattle.block_records.specs.declared.Link.{Link}
 use Rattle.graphs.specs.Graph.{label, here}
 use Rattle.graphs.specs.Forest.{greedy, ordered, placed}
 use Rattle.plans.specs.Places.{place_of, place_before}
 use Rattle.plans.specs.Plan.{numbers}
 use Rattle.thinning.specs.Marks.{Ascends}
-use Rattle.forests.specs.Words.{no_link}
-use Rattle.leaves.specs.Leaf.{crossing, winner, late_link}
+use Rattle.std.specs.List.{list_any}
+use Rattle.block_records.specs.Words.{link_of, links_in}
+use Rattle.leaves.specs.Leaf.{crossing, winner, leader, late_link}
 use Rattle.plans.specs.Tears.{late, torn_at, late_by}
 use Rattle.leaves.proofs.Leaves.{only, tree-crossed, tree-open, cross-true}
 
@@ -32,44 +33,62 @@ module _ (absent : ℕ) (ps : List ℕ) where
       ap (λ (x : List Link). late absent ps (map (λ (e : Link). e.number) x)) (cond-true _ _ _ l)
       ∙ ap (λ b. leb absent (place_of ps e.number) || b) (or-none (leb absent (place_of ps f.number)))
 
-  pub torn-none : (es : List Link) → length es ≡ 0 → false ≡ torn_at absent ps es
+  torn-none : (es : List Link) → length es ≡ 0 → false ≡ torn_at absent ps es
   unfolding late_by numbers ordered greedy
   torn-none [] l = refl
   torn-none (e ∷ es) l = absurd (omega arith)
 
-  pub torn-one : (es : List Link) (e : Link) → get_or es 0 no_link ≡ e → length es ≡ 1 → late_link absent ps e ≡ torn_at absent ps es
+  torn-one : (e : Link) → late_link absent ps e ≡ torn_at absent ps (e ∷ [])
   unfolding ordered placed greedy label
-  torn-one [] e x l = absurd (omega arith)
-  torn-one (f ∷ []) e x l = ap (late_link absent ps) (sym x) ∙ sym (late-one (eqb f.a.0 f.b.0) f)
-  torn-one (f ∷ g ∷ es) e x l = absurd (omega arith)
+  torn-one e = sym (late-one (eqb e.a.0 e.b.0) e)
 
   module _ (e f : Link) where
     crossed : crossing e.a.0 e.b.0 f.a.0 f.b.0 ≡ true → torn_at absent ps (e ∷ f ∷ []) ≡ leb absent (place_of ps (winner ps (e ∷ f ∷ [])))
     unfolding late_by
     crossed h = ap (late absent ps) (tree-crossed ps e f h) ∙ or-none (leb absent (place_of ps (winner ps (e ∷ f ∷ []))))
 
-    pub torn-first : crossing e.a.0 e.b.0 f.a.0 f.b.0 ≡ true → place_before ps e.number f.number ≡ true → late_link absent ps e ≡ torn_at absent ps (e ∷ f ∷ [])
+    torn-first : crossing e.a.0 e.b.0 f.a.0 f.b.0 ≡ true → place_before ps e.number f.number ≡ true → late_link absent ps e ≡ torn_at absent ps (e ∷ f ∷ [])
     unfolding winner
     torn-first h b =
         let c = cross-true e.a.0 e.b.0 f.a.0 f.b.0 h in
         cond-false _ _ _ c.0 ∙ ap (λ k. leb absent (place_of ps k)) (sym (cond-true _ _ _ h ∙ cond-true _ _ _ b)) ∙ sym (crossed h)
 
-    pub torn-second : crossing e.a.0 e.b.0 f.a.0 f.b.0 ≡ true → place_before ps e.number f.number ≡ false → late_link absent ps f ≡ torn_at absent ps (e ∷ f ∷ [])
+    torn-second : crossing e.a.0 e.b.0 f.a.0 f.b.0 ≡ true → place_before ps e.number f.number ≡ false → late_link absent ps f ≡ torn_at absent ps (e ∷ f ∷ [])
     unfolding winner
     torn-second h b =
         let c = cross-true e.a.0 e.b.0 f.a.0 f.b.0 h in
         cond-false _ _ _ c.2 ∙ ap (λ k. leb absent (place_of ps k)) (sym (cond-true _ _ _ h ∙ cond-false _ _ _ b)) ∙ sym (crossed h)
 
-    pub torn-open : crossing e.a.0 e.b.0 f.a.0 f.b.0 ≡ false → ltb e.number f.number ≡ true → (late_link absent ps e || late_link absent ps f) ≡ torn_at absent ps (e ∷ f ∷ [])
+    torn-open : crossing e.a.0 e.b.0 f.a.0 f.b.0 ≡ false → ltb e.number f.number ≡ true → (late_link absent ps e || late_link absent ps f) ≡ torn_at absent ps (e ∷ f ∷ [])
     unfolding only
     torn-open h l = sym (ap (late absent ps) (tree-open ps e f l h) ∙ late-two (eqb e.a.0 e.b.0) (eqb f.a.0 f.b.0) e f l)
 
--- The two links as the code reads them.
-pub pair_is : (es : List Link) (e f : Link) → get_or es 0 no_link ≡ e → get_or es 1 no_link ≡ f → 2 ≤ length es → length es ≤ 2 → es ≡ e ∷ f ∷ []
-pair_is [] e f x y l m = absurd (omega arith)
-pair_is (g ∷ []) e f x y l m = absurd (omega arith)
-pair_is (g ∷ h ∷ []) e f x y l m = ap₂ (λ (e f : Link). e ∷ f ∷ []) x y
-pair_is (g ∷ h ∷ k ∷ es) e f x y l m = absurd (omega arith)
+  -- Of at most two links, where one leads, the forest holds it alone; where none does, it holds all that are not loops.
+  pub torn-led : (es : List Link) (x : Link) → leader ps es ≡ Some x → late_link absent ps x ≡ torn_at absent ps es
+  unfolding leader
+  torn-led [] x h = absurd (let z : ◌≡◌ {A = ℕ} 0 1 = cc in omega arith)
+  torn-led (e ∷ []) x h = absurd (let z : ◌≡◌ {A = ℕ} 0 1 = cc in omega arith)
+  torn-led (e ∷ f ∷ []) x h = elim (cases_Bool (crossing e.a.0 e.b.0 f.a.0 f.b.0)) [
+    | inl t ↦
+        let q = sym (cond-true _ _ _ t) ∙ h in
+        let p : cond (place_before ps e.number f.number) e f ≡ x = cc in
+        elim (cases_Bool (place_before ps e.number f.number)) [
+          | inl u ↦ ap (late_link absent ps) (sym (sym (cond-true _ _ _ u) ∙ p)) ∙ torn-first e f t u
+          | inr u ↦ ap (late_link absent ps) (sym (sym (cond-false _ _ _ u) ∙ p)) ∙ torn-second e f t u
+        ]
+    | inr t ↦ absurd (let q = sym (cond-false _ _ _ t) ∙ h in let z : ◌≡◌ {A = ℕ} 0 1 = cc in omega arith)
+  ]
+  torn-led (e ∷ f ∷ g ∷ es) x h = absurd (let z : ◌≡◌ {A = ℕ} 0 1 = cc in omega arith)
 
-pub pair-ascends : (es : List Link) (e f : Link) → es ≡ e ∷ f ∷ [] → Ascends es → ltb e.number f.number ≡ true
-pair-ascends es e f p a = (subst Ascends p a).0 f here
+  pub torn-any : (t : List (List ℕ)) → length t ≤ 2 → Ascends (links_in t) → leader ps (links_in t) ≡ None
+      → list_any (λ w. late_link absent ps (link_of w)) t ≡ torn_at absent ps (links_in t)
+  unfolding leader
+  torn-any [] l a h = torn-none [] refl
+  torn-any (v ∷ []) l a h = or-none (late_link absent ps (link_of v)) ∙ torn-one (link_of v)
+  torn-any (v ∷ w ∷ []) l a h = elim (cases_Bool (crossing (link_of v).a.0 (link_of v).b.0 (link_of w).a.0 (link_of w).b.0)) [
+    | inl t ↦ absurd (let q = sym (cond-true _ _ _ t) ∙ h in let z : ◌≡◌ {A = ℕ} 0 1 = cc in omega arith)
+    | inr t ↦
+        ap (λ b. late_link absent ps (link_of v) || b) (or-none (late_link absent ps (link_of w)))
+        ∙ torn-open (link_of v) (link_of w) t (a.0 (link_of w) here)
+  ]
+  torn-any (u ∷ v ∷ w ∷ t) l a h = absurd (omega arith)

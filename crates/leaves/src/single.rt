@@ -1,65 +1,63 @@
 //! A block of one change: its thinned graph has at most two links, so what the change exchanges is told by one comparison
 //! before it and one after.
-ghost use Rattle.std.specs.Prelude.{◌≡◌, ℕ, ◌+◌, ◌^◌, ◌<◌, ◌≤◌, length};
+ghost use Rattle.std.specs.Prelude.{◌≡◌, ℕ, ◌+◌, ◌≤◌, length};
+ghost use Rattle.std.specs.List.{list_any};
+ghost use Rattle.block_records.specs.Words.{link_of, links_in};
 ghost use Rattle.plans.specs.Places.{moved};
 ghost use Rattle.plans.specs.Plan.{tree_at, entry};
-ghost use Rattle.forests.specs.Words.{links_in};
-ghost use Rattle.thinning.specs.Marks.{Ascends};
-ghost use Rattle.leaves.specs.Leaf.{crossing, winner, late_link};
 ghost use Rattle.plans.specs.Tears.{torn_at};
-ghost use Rattle.leaves.specs.Telling.{Spoke};
+ghost use Rattle.thinning.specs.Marks.{Ascends};
+ghost use Rattle.leaves.specs.Leaf.{crossing, leader, winner, late_link};
 
-use crate::tally::Tally;
-use forests::{earlier, link_at, place_of};
-use graphs::Link;
-use plans::Move;
+use block_records::{Link, Move};
+use forests::{earlier, place_of};
 
 /// Whether both links are between the same two nodes.
 fn crosses(e: Link, f: Link) -> bool
     ensures { result ≡ crossing e.a.0 e.b.0 f.a.0 f.b.0 }
 {
-    if e.a.0 == e.b.0 {
-        false
-    } else if f.a.0 == e.a.0 {
-        f.b.0 == e.b.0
-    } else if f.a.0 == e.b.0 {
-        f.b.0 == e.a.0
+    e.a != e.b && ((f.a == e.a && f.b == e.b) || (f.a == e.b && f.b == e.a))
+}
+
+/// Of two links between the same nodes, the one that is first in order.
+fn first(links: &[[u32; 3]], places: &[u32]) -> Option<Link>
+    requires { length links.now ≤ 2 }
+    ensures { result ≡ leader places.now (links_in links.now) }
+{
+    let [e, f] = links else {
+        return None;
+    };
+    let (e, f) = (Link::from(*e), Link::from(*f));
+    if !crosses(e, f) {
+        return None;
+    }
+    if earlier(places, e.number, f.number) {
+        Some(e)
     } else {
-        false
+        Some(f)
     }
 }
 
-/// Of two links between the same nodes, the number of the one that is first in order; else 0.
-fn first(links: &[u32], places: &[u32]) -> u32
-    requires { length (links_in links.now) ≤ 2 }
+/// The number of that link, or 0 where there is none.
+#[tactic(auto, using(crate::proofs::Leaves::winner_none, crate::proofs::Leaves::winner_some))]
+fn winner(links: &[[u32; 3]], places: &[u32]) -> u32
+    requires { length links.now ≤ 2 }
     ensures { result ≡ winner places.now (links_in links.now) }
 {
-    if links.len() / 3 < 2 {
-        return 0;
-    }
-    let e = link_at(links, 0);
-    let f = link_at(links, 1);
-    if !crosses(e, f) {
-        return 0;
-    }
-    if earlier(places, e.number, f.number) {
-        e.number
-    } else {
-        f.number
-    }
+    first(links, places).map_or(0, |e| e.number)
 }
 
 /// Makes a change on a thinned graph, and answers the numbers of the link that leaves and the link that comes.
-pub fn leaf(links: &[u32], places: &mut [u32], change: Move<u32>) -> (u32, u32)
-    requires few { length (links_in links.now) ≤ 2 }
+pub fn leaf(links: &[[u32; 3]], places: &mut [u32], change: Move<u32>) -> (u32, u32)
+    requires few { length links.now ≤ 2 }
     requires ascends { Ascends (links_in links.now) }
     requires known { (1 ≤ change.link) × (change.link ≤ length places.old) }
     ensures places { places.new ≡ moved places.old change }
     ensures entry { result ≡ entry (tree_at places.old (links_in links.now)) (tree_at (moved places.old change) (links_in links.now)) }
 {
-    let was = first(links, places);
+    let was = winner(links, places);
     places[change.link as usize - 1] = change.to;
-    let is = first(links, places);
+    let is = winner(links, places);
     if was == is { (0, 0) } else { (was, is) }
 }
 
@@ -67,57 +65,26 @@ pub fn leaf(links: &[u32], places: &mut [u32], change: Move<u32>) -> (u32, u32)
 fn is_late(e: Link, places: &[u32], absent: u32) -> bool
     ensures { result ≡ late_link absent places.now e }
 {
-    if e.a.0 == e.b.0 {
-        false
-    } else {
-        absent <= place_of(places, e.number)
-    }
+    e.a != e.b && absent <= place_of(places, e.number)
+}
+
+/// Whether one of the links of a table is.
+fn any_late(links: &[[u32; 3]], places: &[u32], absent: u32) -> bool
+    ensures { result ≡ list_any (λ words. late_link absent places.now (link_of words)) links.now }
+{
+    links
+        .iter()
+        .any(|words| is_late(Link::from(*words), places, absent))
 }
 
 /// Whether the least forest of a thinned graph holds a link at the absent place or later.
-fn torn(links: &[u32], places: &[u32], absent: u32) -> bool
-    requires few { length (links_in links.now) ≤ 2 }
+pub(crate) fn torn(links: &[[u32; 3]], places: &[u32], absent: u32) -> bool
+    requires few { length links.now ≤ 2 }
     requires ascends { Ascends (links_in links.now) }
     ensures { result ≡ torn_at absent places.now (links_in links.now) }
 {
-    let n = links.len() / 3;
-    if n == 0 {
-        return false;
-    }
-    let e = link_at(links, 0);
-    if n == 1 {
-        return is_late(e, places, absent);
-    }
-    let f = link_at(links, 1);
-    if crosses(e, f) {
-        if earlier(places, e.number, f.number) {
-            is_late(e, places, absent)
-        } else {
-            is_late(f, places, absent)
-        }
-    } else if is_late(e, places, absent) {
-        true
-    } else {
-        is_late(f, places, absent)
-    }
-}
-
-/// The tally after one more change.
-pub fn tell(links: &[u32], places: &[u32], tally: Tally) -> Tally
-    requires few { length (links_in links.now) ≤ 2 }
-    requires ascends { Ascends (links_in links.now) }
-    requires fits { tally.whole + 1 < 2 ^ 64 }
-    ensures { Spoke tally result places.now (links_in links.now) }
-{
-    if tally.torn {
-        return tally;
-    }
-    let torn = torn(links, places, tally.absent);
-    let whole = if torn { tally.whole } else { tally.whole + 1 };
-    Tally {
-        absent: tally.absent,
-        work: tally.work,
-        whole,
-        torn,
+    match first(links, places) {
+        Some(e) => is_late(e, places, absent),
+        None => any_late(links, places, absent),
     }
 }

@@ -1,25 +1,61 @@
 //! What a batch tells as it goes.
-ghost use Rattle.std.specs.Prelude.{◌≡◌, ◌+◌, ◌^◌, ◌<◌};
+ghost use Rattle.std.specs.Prelude.{◌≡◌, ◌+◌, ◌^◌, ◌<◌, ◌≤◌, length, None};
+ghost use Rattle.block_records.specs.Words.{links_in};
+ghost use Rattle.thinning.specs.Marks.{Ascends};
 
-/// The place of absent links, the work count so far, how many changes came before the first after which the least forest
-/// holds an absent link, and whether there was one.
-#[derive(Clone, Copy)]
+use crate::single::torn;
+
+/// The place of absent links, the work count so far, how many changes were made, and how many of them came before the
+/// first after which the least forest holds an absent link, if there was one.
+#[derive(Clone, Copy, PartialEq, Eq, Debug)]
 pub struct Tally {
     pub absent: u32,
     pub work: u64,
-    pub whole: usize,
-    pub torn: bool,
+    pub changes: usize,
+    pub tear: Option<usize>,
 }
 
-/// The tally with some links received.
-pub fn receive(tally: Tally, links: usize) -> Tally
-    requires { tally.work + links < 2 ^ 64 }
-    ensures { result ≡ record { absent = tally.absent; work = tally.work + links; whole = tally.whole; torn = tally.torn } }
-{
-    Tally {
-        absent: tally.absent,
-        work: tally.work + links as u64,
-        whole: tally.whole,
-        torn: tally.torn,
+impl Tally {
+    ghost use Rattle.leaves.specs.Telling.{Spoke};
+
+    /// The tally of a batch before its first change.
+    pub fn new(absent: u32) -> Tally
+        ensures { result ≡ record { absent = absent; work = 0; changes = 0; tear = None } }
+    {
+        Tally {
+            absent,
+            work: 0,
+            changes: 0,
+            tear: None,
+        }
+    }
+
+    /// The tally with some links received.
+    pub fn receive(self, links: usize) -> Tally
+        requires { self.work + links < 2 ^ 64 }
+        ensures { result ≡ record { absent = self.absent; work = self.work + links; changes = self.changes; tear = self.tear } }
+    {
+        Tally {
+            work: self.work + links as u64,
+            ..self
+        }
+    }
+
+    /// The tally after one more change.
+    pub fn tell(self, links: &[[u32; 3]], places: &[u32]) -> Tally
+        requires few { length links.now ≤ 2 }
+        requires ascends { Ascends (links_in links.now) }
+        requires fits { self.changes + 1 < 2 ^ 64 }
+        ensures { Spoke self result places.now (links_in links.now) }
+    {
+        let tear = match self.tear {
+            None if torn(links, places, self.absent) => Some(self.changes),
+            tear => tear,
+        };
+        Tally {
+            changes: self.changes + 1,
+            tear,
+            ..self
+        }
     }
 }

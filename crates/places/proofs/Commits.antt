@@ -3,7 +3,7 @@ use Rattle.std.proofs.Common.{◌≡◌, ℕ, zero, suc, ◌+◌, ◌-◌, ◌<�
 use Rattle.std.proofs.lemmas.List.{take_more, take_more_set, take_all}
 use Rattle.network.specs.declared.types.LinkState.{LinkState}
 use Rattle.network.specs.declared.types.Change.{Change}
-use Rattle.plans.specs.declared.Move.{Move}
+use Rattle.block_records.specs.declared.Move.{Move}
 use Rattle.plans.specs.Network.{link_of, changed_link, altered_link, changed, changed_by}
 use Rattle.plans.proofs.Standings.{altered-set}
 use Rattle.places.specs.Moves.{place_moves}
@@ -32,9 +32,6 @@ changed-more {W} links batch i d l =
 pub changed-none : {W : Type 0} (links : List (LinkState W)) (batch : List (Change W)) → changed_by links (take 0 batch) ≡ links
 unfolding changed_by
 changed-none links batch = refl
-
-pub changed-all : {W : Type 0} (links : List (LinkState W)) (batch : List (Change W)) (i : ℕ) → length batch ≤ i → changed_by links (take i batch) ≡ changed_by links batch
-changed-all {W} links batch i l = ap (λ (cs : List (Change W)). changed_by links cs) (take_all i batch l)
 
 pub changed-length : {W : Type 0} (links : List (LinkState W)) (batch : List (Change W)) → length (changed_by links batch) ≡ length links
 unfolding changed_by

@@ -1,7 +1,7 @@
 -- What the states of links say of a change.
-use Rattle.std.proofs.Common.{◌≡◌, ℕ, zero, suc, ◌+◌, ◌-◌, ◌<◌, ◌≤◌, Bool, true, false, cond, not, ◌||◌, eqb, ltb, ◌⊎◌, List, [], ◌∷◌, length, get_or, Some, None, sym, refl, ap, ◌∙◌, inl, inr, arith}
+use Rattle.std.proofs.Common.{◌≡◌, ℕ, zero, suc, ◌+◌, ◌-◌, ◌<◌, ◌≤◌, Bool, true, false, cond, not, ◌||◌, eqb, ltb, List, [], ◌∷◌, length, get_or, Some, None, sym, refl, ap, ◌∙◌, arith}
 use Rattle.std.proofs.lemmas.List.{length-map}
-use Rattle.std.proofs.lemmas.Bool.{cond-true, cond-false, eq-eqb, ne_eqb, or_left, or_right, or_from, lt-ltb, le-ltb}
+use Rattle.std.proofs.lemmas.Bool.{cond-true, cond-false, eq-eqb, ne_eqb, or_from, le-ltb}
 use Rattle.std.proofs.lemmas.Bool.Decides.{nat_tests}
 use Rattle.faults.specs.declared.DrawFault.TheVariants.{LinkOutside, RemoveAbsent}
 use Rattle.weights.specs.declared.standing.Standing.TheVariants.{Absent}
@@ -37,13 +37,6 @@ state-at : {W : Type 0} (links : List (LinkState W)) (k : ℕ) → 1 ≤ k → k
 state-at links k lo hi = ap is_at (value_read Absent (standings links) k lo) ∙ state-in links (k - 1) (omega arith)
 
 module _ {W : Type 0} (i : ℕ) (links : List (LinkState W)) where
-  pub judged-outside : (c : Change W) → (link_of c ≡ 0) ⊎ (length links < link_of c) → Some (LinkOutside i) ≡ change_fault i links c
-  judged-outside c h = sym (cond-true _ _ _ (out h))
-    where
-      out : (link_of c ≡ 0) ⊎ (length links < link_of c) → (eqb (link_of c) 0 || ltb (length links) (link_of c)) ≡ true
-      out (inl e) = or_left _ _ (eq-eqb _ _ e)
-      out (inr l) = or_right _ _ (lt-ltb _ _ l)
-
   judged-inside : (c : Change W) → 1 ≤ link_of c → link_of c ≤ length links → change_fault i links c ≡ remove_fault i links c
   judged-inside c lo hi = cond-false _ _ _ (or_from _ _ (ne_eqb (link_of c) 0 (omega arith)) (le-ltb _ _ hi))
 
@@ -66,11 +59,6 @@ module _ {W : Type 0} (i : ℕ) (links : List (LinkState W)) where
   judged-present (Remove k) n e lo hi s =
       sym (judged-inside (Remove k) lo hi ∙ cond-true _ _ _ (state-at links k lo hi ∙ ap not (ne_eqb _ _ s)))
   judged-present (Flip k) n e lo hi s = absurd (let z : ◌≡◌ {A = ℕ} 0 1 = cc in omega arith)
-
-  pub judged-other : (c : Change W) → ((n : ℕ) → c ≡ Remove n → ⊥) → 1 ≤ link_of c → link_of c ≤ length links → None ≡ change_fault i links c
-  judged-other (Set k w) n lo hi = sym (judged-inside (Set k w) lo hi)
-  judged-other (Remove k) n lo hi = absurd (n k refl)
-  judged-other (Flip k) n lo hi = sym (judged-inside (Flip k) lo hi)
 
 altered-length : {A : Type 0} (f : A → A) (xs : List A) (k : ℕ) → length (altered f xs k) ≡ length xs
 unfolding altered

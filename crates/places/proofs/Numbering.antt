@@ -14,18 +14,10 @@ module _ (lt : ℕ → ℕ → Bool) (f : ℕ → ℕ) where
   unfolding rank
   rank-none = refl
 
-  pub rank_up : (k : ℕ) → 0 < k → lt (f (k - 1)) (f k) ≡ true → rank lt f k ≡ rank lt f (k - 1) + 1
+  pub rank-level : (k : ℕ) → lt (f (k - 1)) (f k) ≡ false → rank lt f k ≡ rank lt f (k - 1)
   unfolding rank
-  rank_up zero z t = absurd (omega arith)
-  rank_up (suc k) z t =
-      let e : suc k - 1 ≡ k = omega arith in
-      let t2 : lt (f k) (f (suc k)) ≡ true = rw e at t in
-      rw e (ap (λ n. rank lt f k + n) (cond-true _ _ _ t2))
-
-  pub rank-level : (k : ℕ) → 0 < k → lt (f (k - 1)) (f k) ≡ false → rank lt f k ≡ rank lt f (k - 1)
-  unfolding rank
-  rank-level zero z t = absurd (omega arith)
-  rank-level (suc k) z t =
+  rank-level zero t = refl
+  rank-level (suc k) t =
       let e : suc k - 1 ≡ k = omega arith in
       let t2 : lt (f k) (f (suc k)) ≡ false = rw e at t in
       let c : ◌≡◌ {A = ℕ} (cond (lt (f k) (f (suc k))) 1 0) 0 = cond-false (lt (f k) (f (suc k))) 1 0 t2 in
@@ -41,6 +33,14 @@ module _ (lt : ℕ → ℕ → Bool) (f : ℕ → ℕ) where
         | inr t ↦ let c : ◌≡◌ {A = ℕ} (cond (lt (f k) (f (suc k))) 1 0) 0 = cond-false (lt (f k) (f (suc k))) 1 0 t in omega arith
       ]
 
+  pub rank_up : IsStrictWeakOrder lt → (k : ℕ) → lt (f (k - 1)) (f k) ≡ true → rank lt f k ≡ rank lt f (k - 1) + 1
+  unfolding rank
+  rank_up o zero t = absurd (let h = itself lt o (f 0) in cc)
+  rank_up o (suc k) t =
+      let e : suc k - 1 ≡ k = omega arith in
+      let t2 : lt (f k) (f (suc k)) ≡ true = rw e at t in
+      rw e (ap (λ n. rank lt f k + n) (cond-true _ _ _ t2))
+
   module _ (o : IsStrictWeakOrder lt) (n : ℕ) (so : Sorted lt f 0 n) where
     rank_right : (a b : ℕ) → a ≤ b → b < n → (lt (f a) (f b) ≡ ltb (rank lt f a) (rank lt f b)) × (rank lt f a ≤ rank lt f b)
     rank_right a zero l m =
@@ -54,7 +54,7 @@ module _ (lt : ℕ → ℕ → Bool) (f : ℕ → ℕ) where
               let s : suc b - 1 ≡ b = omega arith in
               elim (cases_Bool (lt (f b) (f (suc b)))) [
                 | inl t ↦
-                    let r = rank_up (suc b) (omega arith) (rw s t) in
+                    let r = rank_up o (suc b) (rw s t) in
                     let q : rank lt f (suc b) ≡ rank lt f b + 1 = rw s at r in
                     let up : lt (f a) (f (suc b)) ≡ true = elim (cases_Bool (lt (f a) (f (suc b)))) [
                       | inl y ↦ y
@@ -62,7 +62,7 @@ module _ (lt : ℕ → ℕ → Bool) (f : ℕ → ℕ) where
                     ] in
                     (up ∙ sym (lt-ltb _ _ (omega (arith, h.1))), omega (arith, h.1))
                 | inr t ↦
-                    let r = rank-level (suc b) (omega arith) (rw s t) in
+                    let r = rank-level (suc b) (rw s t) in
                     let q : rank lt f (suc b) ≡ rank lt f b = rw s at r in
                     let w : lt (f a) (f (suc b)) ≡ lt (f a) (f b) = elim (cases_Bool (lt (f a) (f b))) [
                       | inl y ↦ elim (cases_Bool (lt (f a) (f (suc b)))) [

@@ -11,7 +11,7 @@ use Rattle.weights.specs.declared.standing.Standing.TheVariants.{At, Absent}
 use Rattle.weights.specs.Order.{compared, stand}
 use Rattle.network.specs.declared.types.LinkState.{LinkState}
 use Rattle.network.specs.declared.types.Change.{Change}
-use Rattle.plans.specs.declared.Move.{Move}
+use Rattle.block_records.specs.declared.Move.{Move}
 use Rattle.plans.specs.Network.{Sided, is_before, is_absent, standings, moves_of}
 use Rattle.plans.specs.Same.{pool, movers, Faithful, AbsentAt}
 use Rattle.plans.proofs.Standings.{sided-stand, lawful-standing, standings-length, moves-length}

@@ -7,7 +7,7 @@ use Rattle.weights.specs.declared.standing.Standing.TheVariants.{Absent}
 use Rattle.network.specs.declared.types.LinkState.{LinkState}
 use Rattle.network.specs.declared.types.Change.{Change}
 use Rattle.network.specs.Ends.{or_else}
-use Rattle.plans.specs.declared.Move.{Move}
+use Rattle.block_records.specs.declared.Move.{Move}
 use Rattle.plans.specs.Network.{standings, standing_at, link_of, changed, changed_by, links_at, moves_of}
 use Rattle.plans.specs.Same.{pool}
 use Rattle.plans.proofs.Standings.{standings-length}

@@ -1,6 +1,6 @@
 -- Tables that follow the links through a batch: where each link's weight stands, and its state.
-use Rattle.std.proofs.Common.{◌≡◌, ℕ, zero, suc, ◌+◌, ◌-◌, ◌<◌, ◌≤◌, Bool, true, false, cond, not, eqb, List, [], ◌∷◌, ◌++◌, map, length, get_or, take, set, sym, refl, ap, ◌∙◌, ap₂, arith}
-use Rattle.std.proofs.lemmas.List.{length-map, length-set, get_or-map, map-set, map_more, set-get_or, ext_get_or, take_more_set, take_all}
+use Rattle.std.proofs.Common.{◌≡◌, ℕ, zero, suc, ◌-◌, ◌<◌, ◌≤◌, Bool, true, false, cond, not, eqb, List, [], ◌∷◌, map, length, get_or, set, sym, refl, ap, ◌∙◌, ap₂, arith}
+use Rattle.std.proofs.lemmas.List.{length-map, length-set, get_or-map, map-set, set-get_or, ext_get_or}
 use Rattle.weights.specs.declared.standing.Standing.{Standing}
 use Rattle.weights.specs.declared.standing.Standing.TheVariants.{At, Absent}
 use Rattle.network.specs.declared.types.LinkState.{LinkState}
@@ -115,14 +115,3 @@ module _ {W : Type 0} (weights : List (Standing W)) (links : List (LinkState W))
         let z : length (states_by c present) ≡ length present = length-set present (link_of c - 1) (state_by c (get_or present (link_of c - 1) 0)) in
         tracked weights (changed links c) (held_by c q held) (states_by c present) tracks-more room (link_of c - 1) (omega arith)
         ∙ sym (value_read Absent (standings (changed links c)) (link_of c) lo)
-
--- One more state is noted; all are.
-pub states-more : {W : Type 0} (links : List (LinkState W)) (present : List ℕ) (i v : ℕ) (l : LinkState W) → i < length links → i < length present
-    → l ≡ get_or links i l → v ≡ state_of l → take i present ≡ states (take i links) → take (i + 1) (set present i v) ≡ states (take (i + 1) links)
-states-more {W} links present i v l m n e s h =
-    let f : LinkState W → ℕ = λ l. state_of l in
-    take_more_set present i v n ∙ ap₂ (λ (x : List ℕ) (y : ℕ). x ++ y ∷ []) h (s ∙ ap f e) ∙ sym (map_more f links i l m)
-
-pub states-all : {W : Type 0} (links : List (LinkState W)) (present : List ℕ) (i : ℕ) → length links ≤ i → length present ≤ i
-    → take i present ≡ states (take i links) → present ≡ states links
-states-all {W} links present i l m h = sym (take_all i present m) ∙ h ∙ ap (λ (x : List (LinkState W)). states x) (take_all i links l)

@@ -1,7 +1,7 @@
 -- The changes of a batch as moves of links to places.
 use Rattle.std.specs.Prelude.{ℕ, ◌<◌, ◌≤◌, List, [], ◌∷◌, length, slice_index_or}
 use Rattle.network.specs.declared.types.Change.{Change}
-use Rattle.plans.specs.declared.Move.{Move}
+use Rattle.block_records.specs.declared.Move.{Move}
 use Rattle.plans.specs.Network.{link_of}
 
 -- The changes are to links from 1 to m.

@@ -1,5 +1,5 @@
 -- The pool of a batch: all standings that occur in it, each told by where its weight stands; and the places of a ranking.
-use Rattle.std.specs.Prelude.{◌≡◌, ℕ, zero, suc, ◌+◌, ◌-◌, Bool, cond, List, ◌++◌, map, Option, ◌==◌, slice_index, slice_index_or, slice_set}
+use Rattle.std.specs.Prelude.{◌≡◌, ℕ, zero, suc, ◌+◌, ◌-◌, Bool, cond, List, ◌++◌, map, Result, ◌==◌, slice_index, slice_index_or, slice_set}
 use Rattle.faults.specs.declared.DrawFault.{DrawFault}
 use Rattle.weights.specs.declared.order.Side.{Side}
 use Rattle.weights.specs.declared.standing.Standing.{Standing}
@@ -8,6 +8,7 @@ use Rattle.weights.specs.Order.{stand}
 use Rattle.network.specs.declared.types.LinkState.{LinkState}
 use Rattle.network.specs.declared.types.Change.{Change}
 use Rattle.network.specs.declared.types.Change.TheVariants.{Set, Remove, Flip}
+use Rattle.network.specs.Ends.{unless}
 use Rattle.plans.specs.Network.{is_before, link_of}
 use Rattle.places.specs.Changes.{change_fault}
 
@@ -61,9 +62,9 @@ state_of l = cond l.present 1 0
 abbrev pub states : {W : Type 0} → List (LinkState W) → List ℕ
 states links = map (λ (l : LinkState _). state_of l) links
 
--- What is wrong with change i, of any links in these states.
-abbrev pub Judged : {W : Type 0} → ℕ → Change W → List ℕ → Option DrawFault → Type 0
-Judged {W} i c present r = (links : List (LinkState W)) → present ≡ states links → r ≡ change_fault i links c
+-- The answer on change i, of any links in these states.
+abbrev pub Judged : {W : Type 0} → ℕ → Change W → List ℕ → Result (Unit {0}) DrawFault → Type 0
+Judged {W} i c present r = (links : List (LinkState W)) → present ≡ states links → r ≡ unless (change_fault i links c) tt
 
 -- Where the weights of the links stand after a change, if what it sets stands at q.
 abbrev pub held_by : {W : Type 0} → Change W → ℕ → List ℕ → List ℕ

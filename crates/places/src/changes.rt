@@ -11,9 +11,7 @@ pub fn link_of<W: Ordered>(change: &Change<W>) -> u32
     ensures { result ≡ link_of change.now }
 {
     match change {
-        Change::Set(k, _) => *k,
-        Change::Remove(k) => *k,
-        Change::Flip(k) => *k,
+        Change::Set(k, _) | Change::Remove(k) | Change::Flip(k) => *k,
     }
 }
 
@@ -27,12 +25,12 @@ fn changed_link<W: Ordered>(change: Change<W>, link: LinkState<W>) -> LinkState<
             present: true,
         },
         Change::Remove(_) => LinkState {
-            weight: link.weight,
             present: false,
+            ..link
         },
         Change::Flip(_) => LinkState {
-            weight: link.weight,
             present: !link.present,
+            ..link
         },
     }
 }
@@ -51,7 +49,7 @@ pub fn change_links<W: Ordered>(links: &mut [LinkState<W>], batch: &[Change<W>])
     requires { Known (length links.old) batch.now }
     ensures { links.new ≡ changed_by links.old batch.now }
 {
-    for i in 0..batch.len() {
-        change_link(links, batch[i]);
+    for change in batch {
+        change_link(links, *change);
     }
 }

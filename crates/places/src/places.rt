@@ -14,12 +14,17 @@ fn number<R: Ranking>(ranking: &R, order: &[u32], places: &mut [u32])
     requires sorted { Sorted (R.Ranking.before ranking.now) (at order.now) 0 (length order.now) }
     ensures { (k : ℕ) → k < length order.now → slice_index places.new (slice_index order.now k) ≡ rank (R.Ranking.before ranking.now) (at order.now) k }
 {
+    let [first, ..] = order else {
+        return;
+    };
     let mut step = 0;
-    for k in 0..order.len() {
-        if k > 0 && ranking.precedes(order[k - 1], order[k]) {
+    let mut last = *first;
+    for i in order {
+        if ranking.precedes(last, *i) {
             step += 1;
         }
-        places[order[k] as usize] = step;
+        places[*i as usize] = step;
+        last = *i;
     }
 }
 

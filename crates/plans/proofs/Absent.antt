@@ -1,7 +1,7 @@
 -- Links of the last values: whether the others join all nodes shows in the least forest of all.
 use Rattle.std.proofs.Common.{◌≡◌, ℕ, Bool, true, ◌&&◌, ◌||◌, ltb, ◌↔◌, List, inl, inr}
 use Rattle.std.proofs.lemmas.Bool.{cases_Bool, both_ways, and_parts, or_cases, or_left, or_right}
-use Rattle.graphs.specs.declared.Link.{Link}
+use Rattle.block_records.specs.declared.Link.{Link}
 use Rattle.graphs.specs.Graph.{In}
 use Rattle.graphs.specs.Forest.{Distinct, filtered, forest}
 use Rattle.graphs.specs.Spanning.{Within, AllJoined}

@@ -1,7 +1,7 @@
 -- What one link's move in the order exchanges, told by the numbers of the least forests.
 use Rattle.std.proofs.Common.{◌≡◌, ℕ, Bool, false, List, sym, ◌∙◌, inl, inr}
 use Rattle.std.proofs.lemmas.Bool.{cases_eq, both_ways}
-use Rattle.graphs.specs.declared.Link.{Link}
+use Rattle.block_records.specs.declared.Link.{Link}
 use Rattle.graphs.specs.Forest.{Strict, Distinct, forest}
 use Rattle.graphs.specs.Thinning.{Leaves, OneChange}
 use Rattle.graphs.proofs.Change.{replaced}

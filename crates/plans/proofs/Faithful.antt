@@ -8,7 +8,7 @@ use Rattle.weights.specs.declared.order.Side.{Side}
 use Rattle.weights.specs.declared.standing.Standing.{Standing}
 use Rattle.weights.specs.declared.standing.Standing.TheVariants.{Absent}
 use Rattle.weights.specs.Order.{compared}
-use Rattle.plans.specs.declared.Move.{Move}
+use Rattle.block_records.specs.declared.Move.{Move}
 use Rattle.plans.specs.Places.{by_place}
 use Rattle.plans.specs.Network.{is_before, is_level, is_absent, standings, by_standing, graph_of, moves_of}
 use Rattle.plans.specs.Same.{pool}

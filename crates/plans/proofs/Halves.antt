@@ -3,13 +3,13 @@ use Rattle.std.proofs.Common.{◌≡◌, ℕ, true, false, ◌||◌, eqb, List, 
 use Rattle.std.proofs.lemmas.List.{take-append-drop}
 use Rattle.std.proofs.lemmas.Bool.{both_ways, eq-eqb, or_left, or_right}
 use Rattle.std.proofs.lemmas.Bool.Decides.{nat_tests}
-use Rattle.graphs.specs.declared.Link.{Link}
+use Rattle.block_records.specs.declared.Link.{Link}
 use Rattle.graphs.specs.Forest.{Distinct}
 use Rattle.graphs.specs.Spanning.{Within}
 use Rattle.graphs.specs.Thin.{Block, holds}
 use Rattle.graphs.proofs.Kruskal.{forest-sub}
 use Rattle.graphs.proofs.Walks.{held}
-use Rattle.plans.specs.declared.Move.{Move}
+use Rattle.block_records.specs.declared.Move.{Move}
 use Rattle.plans.specs.Places.{Scale, Lawful, before_by, by_place, place_before, moved, moved_by}
 use Rattle.plans.specs.Plan.{forest_by, tree_by, among, Gone, first_but, Entry, entry, entries_by, entries}
 use Rattle.plans.specs.Work.{named, half, thinned_by, thinned_for}

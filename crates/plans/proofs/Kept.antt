@@ -1,13 +1,13 @@
 -- Thinning keeps the least forests, and is small.
 use Rattle.std.proofs.Common.{ℕ, ◌*◌, ◌≤◌, List, [], ◌∷◌, length, arith}
-use Rattle.graphs.specs.declared.Link.{Link}
+use Rattle.block_records.specs.declared.Link.{Link}
 use Rattle.graphs.specs.Forest.{Distinct}
 use Rattle.graphs.specs.Thin.{Block}
 use Rattle.graphs.specs.Thinning.{chosen, merges}
 use Rattle.graphs.proofs.Thinned.{thinned-same, thinned-unmerged}
 use Rattle.graphs.proofs.Size.{chosen_none, chosen_more, thinned-small}
 use Rattle.graphs.proofs.Nodes.{thinned-apart}
-use Rattle.plans.specs.declared.Move.{Move}
+use Rattle.block_records.specs.declared.Move.{Move}
 use Rattle.plans.specs.Places.{Scale, Lawful, before_by, by_place, place_before}
 use Rattle.plans.specs.Work.{named, thinned_by, thinned_for}
 use Rattle.plans.proofs.Orders.{strict-by, lawful-places}

@@ -2,12 +2,12 @@
 use Rattle.std.proofs.Common.{◌≡◌, ℕ, zero, suc, ◌<◌, ◌≤◌, false, ◌≢◌, ◌⊎◌, ◌↔◌, List, [], ◌∷◌, length, get_or, take, refl, ap, ◌∙◌, inl, inr, arith}
 use Rattle.std.proofs.lemmas.List.{get_or-set_other}
 use Rattle.std.proofs.lemmas.Bool.{cases_Bool, eqb-false}
-use Rattle.graphs.specs.declared.Link.{Link}
+use Rattle.block_records.specs.declared.Link.{Link}
 use Rattle.graphs.specs.Graph.{In}
 use Rattle.graphs.specs.Forest.{Distinct}
 use Rattle.graphs.proofs.Kruskal.{forest-sub, forest-distinct}
 use Rattle.graphs.proofs.Change.{one-change}
-use Rattle.plans.specs.declared.Move.{Move}
+use Rattle.block_records.specs.declared.Move.{Move}
 use Rattle.plans.specs.Places.{Scale, Lawful, value_of, before_by, place_of, placed_at, moved, moved_by, table_at}
 use Rattle.plans.specs.Plan.{forest_by, tree_by, among, Exchange, Ascending, Entry, entry, entries_by, exchanged, exchanged_by, replayed}
 use Rattle.plans.proofs.Orders.{strict-by}

@@ -2,12 +2,12 @@
 use Rattle.std.proofs.Common.{◌≡◌, ℕ, zero, suc, ◌+◌, ◌/◌, ◌<◌, ◌≤◌, Bool, true, cond, ◌&&◌, ◌||◌, eqb, ltb, List, [], ◌∷◌, ◌++◌, map, length, get_or, take, drop, set, refl, ap, ◌∙◌, ap₂, arith}
 use Rattle.std.proofs.lemmas.List.{length-set}
 use Rattle.std.proofs.lemmas.Bool.{or_left, or_right, eq-eqb}
-use Rattle.graphs.specs.declared.Link.{Link}
+use Rattle.block_records.specs.declared.Link.{Link}
 use Rattle.graphs.specs.Graph.{In}
 use Rattle.graphs.specs.Thin.{Block, thinned}
 use Rattle.graphs.proofs.Kruskal.{forest-sub}
 use Rattle.graphs.proofs.Agreeing.{AgreeOn, forest-agree, thinned-agree, thinned-numbers}
-use Rattle.plans.specs.declared.Move.{Move}
+use Rattle.block_records.specs.declared.Move.{Move}
 use Rattle.plans.specs.Places.{Scale, value_of, before_by, placed_at, moved, moved_by}
 use Rattle.plans.specs.Plan.{forest_by, tree_by, numbers, among, Entry, entry, entries_by}
 use Rattle.plans.specs.Work.{named, half, thinned_by, block_work_by, batch_work_by, work_by}

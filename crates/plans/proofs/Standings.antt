@@ -11,14 +11,14 @@ use Rattle.weights.specs.Order.{stand}
 use Rattle.network.specs.declared.types.Ends.{Ends}
 use Rattle.network.specs.declared.types.LinkState.{LinkState}
 use Rattle.network.specs.declared.types.Change.{Change}
-use Rattle.graphs.specs.declared.Link.{Link}
+use Rattle.block_records.specs.declared.Link.{Link}
 use Rattle.graphs.specs.Graph.{In}
 use Rattle.network.specs.Ends.{no_node, first_end_fault}
 use Rattle.graphs.specs.Forest.{Distinct}
 use Rattle.graphs.specs.Spanning.{Within}
 use Rattle.graphs.proofs.Lists.{in-cons, Sorted, sorted-distinct}
 use Rattle.graphs.proofs.Orders.{strict-ltb}
-use Rattle.plans.specs.declared.Move.{Move}
+use Rattle.block_records.specs.declared.Move.{Move}
 use Rattle.plans.specs.Places.{Lawful, value_of, placed_at, moved, moved_by, table_at}
 use Rattle.plans.specs.Network.{Sided, graph_from, is_before, is_level, standing_of, standings, standing_at, by_standing, link_of, altered, altered_link, changed_link, changed, changed_by, links_at, move_of, moves_of}
 

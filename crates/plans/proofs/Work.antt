@@ -4,7 +4,7 @@ use Rattle.std.proofs.lemmas.List.{at_drop_all}
 use Rattle.std.proofs.lemmas.Bool.{cases_eq, cases_lt}
 use Rattle.graphs.specs.Forest.{Distinct}
 use Rattle.graphs.specs.Thin.{Block}
-use Rattle.plans.specs.declared.Move.{Move}
+use Rattle.block_records.specs.declared.Move.{Move}
 use Rattle.plans.specs.Places.{Scale, Lawful, by_place, moved_by}
 use Rattle.plans.specs.Work.{half, thinned_by, thinned_for, block_work_by, batch_work_by, work_by, block_work, batch_work, work, doublings}
 use Rattle.plans.proofs.Kept.{small-thinned-by}

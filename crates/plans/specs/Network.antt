@@ -10,10 +10,10 @@ use Rattle.network.specs.declared.types.Ends.{Ends}
 use Rattle.network.specs.declared.types.LinkState.{LinkState}
 use Rattle.network.specs.declared.types.Change.{Change}
 use Rattle.network.specs.declared.types.Change.TheVariants.{Set, Remove, Flip}
-use Rattle.graphs.specs.declared.Link.{Link}
+use Rattle.block_records.specs.declared.Link.{Link}
 use Rattle.graphs.specs.Forest.{forest, filtered}
 use Rattle.graphs.specs.Spanning.{all_joined}
-use Rattle.plans.specs.declared.Move.{Move}
+use Rattle.block_records.specs.declared.Move.{Move}
 use Rattle.plans.specs.Places.{Scale, value_of, before_by}
 use Rattle.plans.specs.Plan.{Entry, numbers, entries_by}
 use Rattle.plans.specs.Work.{work_by}

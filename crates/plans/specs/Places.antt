@@ -1,6 +1,6 @@
 -- Values by which links are ordered (places, or how links stand in a network), tables of them, and moves of links to other values.
 use Rattle.std.specs.Prelude.{◌≡◌, ℕ, zero, suc, Bool, true, false, not, ◌&&◌, ◌||◌, List, [], ◌∷◌, take, nat_eq, nat_lt, slice_index_or, slice_set}
-use Rattle.plans.specs.declared.Move.{Move}
+use Rattle.block_records.specs.declared.Move.{Move}
 
 -- A scale of values: whether one is ahead of another, whether two are level, and the value of a number that is no link's.
 pub record Scale (V : Type 0) : Type 0 where

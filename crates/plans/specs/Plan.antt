@@ -1,8 +1,8 @@
 -- The least forest at each moment of a batch, and what each change exchanges.
 use Rattle.std.specs.Prelude.{◌≡◌, ℕ, ◌<◌, Bool, true, false, cond, ◌||◌, ◌⊎◌, List, [], ◌∷◌, map, take, ◌==◌, nat_lt}
-use Rattle.graphs.specs.declared.Link.{Link}
+use Rattle.block_records.specs.declared.Link.{Link}
 use Rattle.graphs.specs.Forest.{ordered, forest}
-use Rattle.plans.specs.declared.Move.{Move}
+use Rattle.block_records.specs.declared.Move.{Move}
 use Rattle.plans.specs.Places.{Scale, before_by, by_place, moved}
 
 -- The least forest of the links in the order of a table.

@@ -5,7 +5,7 @@ use Rattle.weights.specs.declared.standing.Standing.TheVariants.{Absent}
 use Rattle.weights.specs.Order.{compared, stand}
 use Rattle.network.specs.declared.types.LinkState.{LinkState}
 use Rattle.network.specs.declared.types.Change.{Change}
-use Rattle.plans.specs.declared.Move.{Move}
+use Rattle.block_records.specs.declared.Move.{Move}
 use Rattle.plans.specs.Network.{standings, moves_of, is_absent}
 
 -- All values that occur in a batch: those of the table, and those that its moves give.

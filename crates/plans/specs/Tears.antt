@@ -1,7 +1,7 @@
 -- The first change of a batch after which the least forest holds a link that a test of its value picks out: an absent one.
 use Rattle.std.specs.Prelude.{ℕ, suc, Bool, false, cond, ◌||◌, List, [], ◌∷◌, nat_le}
-use Rattle.graphs.specs.declared.Link.{Link}
-use Rattle.plans.specs.declared.Move.{Move}
+use Rattle.block_records.specs.declared.Link.{Link}
+use Rattle.block_records.specs.declared.Move.{Move}
 use Rattle.plans.specs.Places.{Scale, value_of, by_place, moved}
 use Rattle.plans.specs.Plan.{tree_by}
 

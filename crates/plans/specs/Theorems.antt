@@ -5,12 +5,12 @@ use Rattle.weights.specs.declared.standing.Standing.{Standing}
 use Rattle.network.specs.declared.types.Ends.{Ends}
 use Rattle.network.specs.declared.types.LinkState.{LinkState}
 use Rattle.network.specs.declared.types.Change.{Change}
-use Rattle.graphs.specs.declared.Link.{Link}
+use Rattle.block_records.specs.declared.Link.{Link}
 use Rattle.graphs.specs.Graph.{In}
 use Rattle.graphs.specs.Forest.{Distinct, forest, uptos}
 use Rattle.graphs.specs.Spanning.{Within, AllJoined, all_joined, SpanningTree}
 use Rattle.graphs.specs.Thin.{Block}
-use Rattle.plans.specs.declared.Move.{Move}
+use Rattle.block_records.specs.declared.Move.{Move}
 use Rattle.plans.specs.Places.{moved_by}
 use Rattle.plans.specs.Plan.{Entry, replayed, tree_at, entries, tree_by, entries_by, Exchange}
 use Rattle.plans.specs.Work.{half, thinned_by, work, doublings}

@@ -1,7 +1,7 @@
 -- The work of a batch: the sum, over all blocks, of the links that they receive.
 use Rattle.std.specs.Prelude.{ℕ, zero, suc, ◌+◌, ◌/◌, ◌^◌, Bool, false, cond, ◌||◌, List, [], ◌∷◌, length, take, drop, ◌==◌, nat_le}
 use Rattle.graphs.specs.Thin.{Block, thinned}
-use Rattle.plans.specs.declared.Move.{Move}
+use Rattle.block_records.specs.declared.Move.{Move}
 use Rattle.plans.specs.Places.{Scale, before_by, by_place, moved_by}
 
 -- Whether one of the changes names link k.

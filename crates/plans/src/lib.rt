@@ -7,13 +7,6 @@ ghost use Rattle.plans.specs.Worked.{Worked};
 
 use weights::Ordered;
 
-/// A move gives a link a new standing or place.
-#[derive(Clone, Copy)]
-pub struct Move<V> {
-    pub link: u32,
-    pub to: V,
-}
-
 /// The least tree is a spanning tree of the present links, and up to each link no spanning tree of them has more links.
 pub fn tree_least<W: Ordered>()
     ensures { TreeLeast W.Ordered.side }

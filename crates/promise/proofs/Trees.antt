@@ -3,7 +3,7 @@ use Rattle.std.proofs.Common.{◌≡◌, ℕ, ◌-◌, ◌≤◌, Bool, true, Li
 use Rattle.std.proofs.lemmas.List.{take-append-le, take_all}
 use Rattle.weights.specs.declared.order.Side.{Side}
 use Rattle.network.specs.declared.types.Ends.{Ends}
-use Rattle.graphs.specs.declared.Link.{Link}
+use Rattle.block_records.specs.declared.Link.{Link}
 use Rattle.graphs.specs.Graph.{In}
 use Rattle.graphs.specs.Forest.{upto, uptos, LoopFree}
 use Rattle.graphs.proofs.Joined.{◌⊆◌, joined_in, joined-mono, joins-joined, joined-joins}

@@ -3,12 +3,12 @@ use Rattle.std.proofs.Common.{◌≡◌, ℕ, zero, suc, ◌+◌, ◌-◌, ◌<�
 use Rattle.std.proofs.lemmas.List.{get_or-set_same, get_or-set_other}
 use Rattle.std.proofs.lemmas.Bool.{cases_eq, eq-eqb, ne_eqb, cond-true, cond-false}
 use Rattle.std.proofs.lemmas.Bool.Decides.{nat_tests}
-use Rattle.graphs.specs.declared.Link.{Link}
+use Rattle.block_records.specs.declared.Link.{Link}
 use Rattle.graphs.specs.Graph.{label, here, later}
 use Rattle.forests.specs.Union.{Holds}
 use Rattle.graphs.specs.Thin.{roots, renamed, relabel}
 use Rattle.graphs.specs.Thinning.{relabelled}
-use Rattle.forests.specs.Words.{link}
+use Rattle.block_records.specs.Words.{link}
 use Rattle.thinning.specs.Marks.{Below}
 use Rattle.thinning.specs.Names.{Renames, through}
 

@@ -3,11 +3,11 @@ use Rattle.std.proofs.Common.{◌≡◌, ℕ, ◌+◌, ◌<◌, Bool, true, fals
 use Rattle.std.proofs.lemmas.List.{take_more, append-nil}
 use Rattle.std.proofs.lemmas.List.Elements.{filter_more}
 use Rattle.std.proofs.lemmas.Bool.{cond-true, cond-false}
-use Rattle.graphs.specs.declared.Link.{Link}
+use Rattle.block_records.specs.declared.Link.{Link}
 use Rattle.graphs.specs.Graph.{label, In, here, later}
 use Rattle.graphs.proofs.Joined.{◌⊆◌, joined_in, label-spans}
 use Rattle.forests.specs.Union.{Holds}
-use Rattle.forests.specs.Words.{no_link}
+use Rattle.block_records.specs.Words.{no_link}
 use Rattle.thinning.specs.Marks.{stacked}
 
 pub stacked-none : (K : List Link) → stacked K [] ≡ K

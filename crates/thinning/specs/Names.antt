@@ -1,8 +1,8 @@
 -- New numbers of nodes in a table: node x has the number at word x.
 use Rattle.std.specs.Prelude.{◌≡◌, ℕ, ◌<◌, List, slice_index}
-use Rattle.graphs.specs.declared.Link.{Link}
+use Rattle.block_records.specs.declared.Link.{Link}
 use Rattle.graphs.specs.Thin.{renamed}
-use Rattle.forests.specs.Words.{link}
+use Rattle.block_records.specs.Words.{link}
 
 -- The table has the new number of each node below n, where the ends of some links are merged.
 abbrev pub Renames : List Link → List ℕ → ℕ → Type 0

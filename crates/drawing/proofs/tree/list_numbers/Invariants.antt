@@ -1,5 +1,5 @@
 use Rattle.std.proofs.Common.{◌≡◌, map, take}
-use Rattle.graphs.specs.declared.Link.{Link}
+use Rattle.block_records.specs.declared.Link.{Link}
 use Rattle.forests.specs.Words.{links_in}
 use Rattle.drawing.proofs.tree.list_numbers.Given as goal
 

@@ -1,5 +1,5 @@
 use Rattle.std.proofs.Common.{◌≡◌, ◌≤◌, List, drop}
-use Rattle.graphs.specs.declared.Link.{Link}
+use Rattle.block_records.specs.declared.Link.{Link}
 use Rattle.forests.specs.Words.{links_in}
 use Rattle.forests.specs.Union.{Falls, Holds}
 use Rattle.forests.proofs.Greedy.{Sofar}

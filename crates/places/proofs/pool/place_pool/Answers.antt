@@ -12,7 +12,7 @@ give_places-requires g c =
     let laws : Sided side = record { level = m.level; mirrored = m.mirrored; back = m.back; passes = m.passes } in
     record {
       size = c.requires;
-      ranks = ranks-standings side laws (sourced c.args.links.now c.args.batch.now c.args.sources.now);
+      ranks = ranks-standings side laws (sourced c.args.pool.now.links.now c.args.pool.now.batch.now c.args.pool.now.sources.now);
     }
 
 pub returns : goal.returns
@@ -20,9 +20,9 @@ returns g c = λ i j li lj.
     let m = g.met.W.Ordered in
     let side = g.W.Ordered.side in
     let laws : Sided side = record { level = m.level; mirrored = m.mirrored; back = m.back; passes = m.passes } in
-    let links = c.args.links.now in
-    let batch = c.args.batch.now in
-    let sources = c.args.sources.now in
+    let links = c.args.pool.now.links.now in
+    let batch = c.args.pool.now.batch.now in
+    let sources = c.args.pool.now.sources.now in
     let n : length (sourced links batch sources) ≡ length sources = length-map sources (told_by (weights_of links batch)) in
     places-compared side laws (sourced links batch sources) c.give_places.new.places
     (λ a b la lb. c.give_places.ensures a b (omega arith) (omega arith)) i j (omega arith) (omega arith)

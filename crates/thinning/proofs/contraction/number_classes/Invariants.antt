@@ -1,5 +1,5 @@
 use Rattle.std.proofs.Common.{◌≡◌, ◌-◌, ◌<◌, List}
-use Rattle.graphs.specs.declared.Link.{Link}
+use Rattle.block_records.specs.declared.Link.{Link}
 use Rattle.graphs.specs.Thin.{roots}
 use Rattle.forests.specs.Union.{Holds}
 use Rattle.thinning.specs.Names.{Renames}
