@@ -1,6 +1,6 @@
 -- When a chain of grounds gives no fault.
-use Rattle.std.proofs.Common.{◌≡◌, ℕ, Bool, true, false, cond, Some, None, Option, refl, arith}
-use Rattle.network.specs.Ends.{or_else}
+use Rattle.std.proofs.Common.{◌≡◌, ℕ, Bool, true, false, cond, Some, None, Ok, Option, refl, arith}
+use Rattle.network.specs.Ends.{or_else, unless}
 
 pub none-some : {X : Type 0} (o : Option X) (x : X) → o ≡ None → o ≡ Some x → ⊥
 none-some o x e f = let z : ◌≡◌ {A = ℕ} 0 1 = cc in omega arith
@@ -20,3 +20,11 @@ or-none (Some x) p e = absurd (none-some (Some x) x e refl)
 pub none_or : {X : Type 0} (o p : Option X) → o ≡ None → p ≡ None → or_else o p ≡ None
 none_or None p e f = f
 none_or (Some x) p e f = e
+
+-- Where a call that only refuses has passed, there is no ground.
+pub passed : {X E : Type 0} (o : Option E) (x y : X) → Ok x ≡ unless o y → o ≡ None
+passed None x y e = refl
+passed (Some f) x y e = cc
+
+pub passed-if : {X E : Type 0} (b : Bool) (f : E) (x y : X) → Ok x ≡ unless (cond b (Some f) None) y → b ≡ false
+passed-if b f x y e = (cond-none b f None (passed (cond b (Some f) None) x y e)).0

@@ -1,8 +1,7 @@
 -- The flags of which exactly those of a list are up.
-use Rattle.std.proofs.Common.{◌≡◌, ℕ, zero, suc, ◌+◌, ◌-◌, ◌<◌, ◌≤◌, Bool, true, false, cond, not, eqb, ltb, List, [], ◌∷◌, ◌++◌, length, get_or, take, drop, set, Some, None, Option, sym, refl, ap, ◌∙◌, ⊎_elim, add-one, arith}
-use mathlib.Core.Bool.{beq}
-use Rattle.std.proofs.lemmas.List.{length-append, length-set, get_or_append_left, get_or_at, get_or-set_same, get_or-set_other, ext_get_or, take_more, length-take-le}
-use Rattle.std.proofs.lemmas.Bool.{eq-eqb, ne_eqb, cases_eq, cases_lt, cases_Bool, false≢true, true≢false, cond-true, cond-false}
+use Rattle.std.proofs.Common.{◌≡◌, ℕ, zero, suc, ◌+◌, ◌-◌, ◌<◌, ◌≤◌, Bool, true, false, cond, eqb, ltb, List, [], ◌∷◌, ◌++◌, length, get_or, take, drop, set, Some, None, Option, inl, inr, sym, refl, ap, ◌∙◌, ⊎_elim, add-one, arith}
+use Rattle.std.proofs.lemmas.List.{length-append, length-set, get_or_append_left, get_or_at, get_or-set_same, get_or-set_other, ext_get_or, take_more}
+use Rattle.std.proofs.lemmas.Bool.{eq-eqb, ne_eqb, cases_eq, cases_lt, cases_Bool, false≢true, cond-true, cond-false}
 use Rattle.faults.specs.declared.PlayerFault.{PlayerFault}
 use Rattle.faults.specs.declared.FabricFault.TheVariants.{LinkOutside, CarriesAlready}
 use Rattle.faults.specs.declared.PlayerFault.TheVariants.{NotBlank, Refused}
@@ -10,7 +9,7 @@ use Rattle.network.specs.Ends.{or_else}
 use Rattle.player.specs.Plan.{Sheet, starts, unfit}
 use Rattle.player.specs.Start.{mem, list_fault}
 use Rattle.player.specs.Lay.{only, agree, lay_fault}
-use Rattle.fabrics.specs.Meaning.{enable_fault}
+use Rattle.fabrics.specs.Meaning.{carries, enable_fault}
 use Rattle.player.proofs.Grants.{among_in, enable-granted}
 use Rattle.player.proofs.Nones.{cond-none}
 use Rattle.player.proofs.Walks.{fault-zero, fault-over, fault-twice, fault-next}
@@ -31,6 +30,10 @@ only_at (suc m) xs i h =
     let e : m ≡ i = omega arith in
     get_or_at (only m xs) (mem (suc m) xs) [] false i (length-only m xs ∙ e) ∙ ap (λ n. mem (suc n) xs) e)
     (cases_lt i m)
+
+pub flag : (m : ℕ) (xs : List ℕ) (k : ℕ) → 1 ≤ k → k ≤ m → carries (only m xs) k ≡ mem k xs
+flag m xs k some most =
+    let s : suc (k - 1) ≡ k = omega arith in only_at m xs (k - 1) (omega arith) ∙ ap (λ y. mem y xs) s
 
 pub mem-push : (y x : ℕ) (xs : List ℕ) → mem y (xs ++ x ∷ []) ≡ cond (mem y xs) true (eqb y x)
 mem-push y x [] = elim (eqb y x) as (λ b. cond b true false ≡ b) [ true ↦ refl | false ↦ refl ]
@@ -84,20 +87,6 @@ agree-self [] = refl
 agree-self (true ∷ xs) = agree-self xs
 agree-self (false ∷ xs) = agree-self xs
 
--- One flag more of each.
-pub agree-push : (c d : List Bool) (x y : Bool) → length c ≡ length d
-    → agree (c ++ x ∷ []) (d ++ y ∷ []) ≡ cond (cond x y (cond y false true)) (agree c d) false
-agree-push [] [] true true h = refl
-agree-push [] [] true false h = refl
-agree-push [] [] false true h = refl
-agree-push [] [] false false h = refl
-agree-push [] (y ∷ ys) a b h = absurd (omega arith)
-agree-push (x ∷ xs) [] a b h = absurd (omega arith)
-agree-push (true ∷ xs) (true ∷ ys) a b h = agree-push xs ys a b (omega arith)
-agree-push (true ∷ xs) (false ∷ ys) a b h = elim (cond a b (cond b false true)) as (λ v. false ≡ cond v false false) [ true ↦ refl | false ↦ refl ]
-agree-push (false ∷ xs) (true ∷ ys) a b h = elim (cond a b (cond b false true)) as (λ v. false ≡ cond v false false) [ true ↦ refl | false ↦ refl ]
-agree-push (false ∷ xs) (false ∷ ys) a b h = agree-push xs ys a b (omega arith)
-
 -- What a list without a fault says of its link at place i.
 pub record Sound (m : ℕ) (xs : List ℕ) (i : ℕ) : Type 0 where
   pub some : get_or xs i 0 ≡ 0 → ⊥
@@ -131,61 +120,25 @@ lit-more m xs i c d h s e f =
 -- A fabric enables a link that is not yet in the list.
 pub only-enable : (m : ℕ) (xs : List ℕ) (x : ℕ) → (x ≡ 0 → ⊥) → x ≤ m → mem x xs ≡ false → enable_fault (only m xs) x ≡ None
 only-enable m xs x n h e =
-    let s : suc (x - 1) ≡ x = omega arith in
-    enable-granted (only m xs) x
-    (among_in (only m xs) x n (rw (length-only m xs) h))
-    (only_at m xs (x - 1) (omega arith) ∙ ap (λ y. mem y xs) s ∙ e)
+    enable-granted (only m xs) x (among_in (only m xs) x n (rw (length-only m xs) h)) (flag m xs x (omega arith) h ∙ e)
 
--- What the survey knows after one link more.
-pub agree-more : (c : List Bool) (i : ℕ) (xs : List ℕ) (y : Bool) → i < length c → mem (suc i) xs ≡ y
-    → agree (take (i + 1) c) (only (i + 1) xs)
-    ≡ cond (cond (get_or c i false) y (cond y false true)) (agree (take i c) (only i xs)) false
-agree-more c i xs y h e =
-    ap (λ t. agree t (only (i + 1) xs)) (take_more c i false h)
-    ∙ ap (λ n. agree (take i c ++ get_or c i false ∷ []) (only n xs)) (add-one i)
-    ∙ agree-push (take i c) (only i xs) (get_or c i false) (mem (suc i) xs)
-    (length-take-le i c (omega arith) ∙ sym (length-only i xs))
-    ∙ ap (λ v. cond (cond (get_or c i false) v (cond v false true)) (agree (take i c) (only i xs)) false) e
+-- Whether exactly the listed links carry, link by link.
+module _ (m : ℕ) (xs : List ℕ) (c : List Bool) (size : length c ≡ m) where
+  pub only-each : ((k : ℕ) → 1 ≤ k → k ≤ m → carries c k ≡ mem k xs) → true ≡ agree c (only m xs)
+  only-each each =
+      let e : c ≡ only m xs =
+      ext_get_or false c (only m xs) (size ∙ sym (length-only m xs))
+      (λ i h.
+      let s : i < m = omega arith in
+      let j : i ≡ suc i - 1 = omega arith in
+      ap (λ k. get_or c k false) j ∙ each (suc i) (omega arith) s ∙ sym (only_at m xs i s)) in
+      sym (ap (agree c) (sym e) ∙ agree-self c)
 
-apart : (x y b : Bool) → not (beq x y) ≡ true → cond (cond x y (cond y false true)) b false ≡ false
-apart true true b n = absurd (false≢true n)
-apart true false b n = refl
-apart false true b n = refl
-apart false false b n = absurd (false≢true n)
-
-alike : (x y b : Bool) → not (beq x y) ≡ false → cond (cond x y (cond y false true)) b false ≡ b
-alike true true b n = refl
-alike true false b n = absurd (true≢false n)
-alike false true b n = absurd (true≢false n)
-alike false false b n = refl
-
--- One link more of the survey.
-module _ (c : List Bool) (i : ℕ) (on : Bool) (h : i < length c) (is : on ≡ get_or c (i + 1 - 1) false) where
-  on-is : on ≡ get_or c i false
-  on-is = let e : i + 1 - 1 ≡ i = omega arith in is ∙ ap (λ j. get_or c j false) e
-
-  pub blank-lost : on ≡ true → false ≡ agree (take (i + 1) c) (only (i + 1) [])
-  blank-lost e =
-      sym (agree-more c i [] false h refl
-      ∙ ap (λ v. cond (cond v false true) (agree (take i c) (only i [])) false) (sym on-is ∙ e))
-
-  pub blank-kept : on ≡ false → (b : Bool) → b ≡ agree (take i c) (only i []) → b ≡ agree (take (i + 1) c) (only (i + 1) [])
-  blank-kept e b p =
-      p ∙ sym (agree-more c i [] false h refl
-      ∙ ap (λ v. cond (cond v false true) (agree (take i c) (only i [])) false) (sym on-is ∙ e))
-
-  module _ (xs : List ℕ) (l : Bool) (lists : l ≡ mem (i + 1) xs) where
-    grown : agree (take (i + 1) c) (only (i + 1) xs) ≡ cond (cond on l (cond l false true)) (agree (take i c) (only i xs)) false
-    grown =
-        agree-more c i xs l h (sym (lists ∙ ap (λ n. mem n xs) (add-one i)))
-        ∙ ap (λ v. cond (cond v l (cond l false true)) (agree (take i c) (only i xs)) false) (sym on-is)
-
-    pub exact-kept : not (beq on l) ≡ false → (b : Bool) → b ≡ agree (take i c) (only i xs)
-        → b ≡ agree (take (i + 1) c) (only (i + 1) xs)
-    exact-kept e b p = p ∙ sym (grown ∙ alike on l (agree (take i c) (only i xs)) e)
-
-    pub exact-lost : not (beq on l) ≡ true → false ≡ agree (take (i + 1) c) (only (i + 1) xs)
-    exact-lost n = sym (grown ∙ apart on l (agree (take i c) (only i xs)) n)
+  pub only-but : (k : ℕ) → 1 ≤ k → k ≤ m → (carries c k ≡ mem k xs → ⊥) → false ≡ agree c (only m xs)
+  only-but k some most n = elim (cases_Bool (agree c (only m xs))) [
+    | inl t ↦ absurd (n (ap (λ d. carries d k) (agree-is c (only m xs) t) ∙ flag m xs k some most))
+    | inr f ↦ sym f
+  ]
 
 -- When lay is granted.
 module _ (s : Sheet) (c : List Bool) (size : length c ≡ s.m) (fit : unfit s ≡ false) (sound : list_fault s.m [] (starts s) ≡ None) where

@@ -1,5 +1,8 @@
 -- Whether an item is in a list, by its place; and in an ascending list by one look.
-use Rattle.std.proofs.Common.{◌≡◌, ℕ, zero, suc, ◌+◌, ◌-◌, ◌<◌, ◌≤◌, true, false, cond, eqb, List, [], ◌∷◌, length, get_or, take, sym, refl, ap, ◌∙◌, ⊎_elim, arith}
+use Rattle.std.proofs.Common.{◌≡◌, ℕ, zero, suc, ◌+◌, ◌<◌, ◌≤◌, true, false, cond, eqb, List, [], ◌∷◌, length, get_or, take, Some, None, Option, Bor, sym, refl, ap, ap₂, ◌∙◌, ⊎_elim, add-one, arith}
+use Rattle.std.specs.List.{list_any}
+use Rattle.std.specs.Option.{MatchOption, option_eq, option_map, unwrap_or}
+use Rattle.std.proofs.lemmas.Bool.Decides.{nat_tests}
 use Rattle.std.proofs.lemmas.List.{length-take-le, get_or-take}
 use Rattle.std.proofs.lemmas.Bool.{eq-eqb, ne_eqb, cases_eq, cases_lt, true≢false}
 use Rattle.player.specs.Start.{mem, Ascends, Parts}
@@ -106,27 +109,30 @@ parts-step xs at x p m =
     (λ (h : length xs ≤ at). absurd (true≢false (sym m ∙ parts-past xs at x p h)))
     (cases_lt at (length xs))
 
--- Adjacent items in order, so far and one further.
-pub record Rising (xs : List ℕ) (n : ℕ) : Type 0 where
-  pub pairs : (i j : ℕ) → i < j → j < n → get_or xs i 0 < get_or xs j 0
+-- An item of an ascending list is not among those before it.
+pub parts-new : (xs : List ℕ) (i : ℕ) → Ascends xs → i < length xs → mem (get_or xs i 0) (take i xs) ≡ false
+parts-new xs i a h =
+    let l : length (take i xs) ≡ i = length-take-le i xs (omega arith) in
+    parts-past (take i xs) i (get_or xs i 0) (parts-front xs i a h) (omega arith)
 
-pub rising-one : (xs : List ℕ) → Rising xs 1
-rising-one xs = record { pairs = λ i j l h. absurd (omega arith) }
+-- What a look at a place of a list tells of an item that may only stand there.
+pub parts-got : (xs : List ℕ) (at x : ℕ) → Parts xs at x → (r : Option (Bor ℕ)) (y : Bor ℕ) → y.now ≡ x
+    → (Q : Bor ℕ → Type 0) → MatchOption r (length xs ≤ at) (λ v. (at < length xs) × Q v)
+    → unwrap_or (option_map (λ v. v.now) r) 0 ≡ get_or xs at 0 → option_eq (λ v w. eqb v.now w.now) r (Some y) ≡ mem x xs
+parts-got xs at x p None y e Q m u = sym (parts-past xs at x p m)
+parts-got xs at x p (Some v) y e Q m u = ap₂ eqb u e ∙ parts-look xs at x p m.0
 
-pub rising-more : (xs : List ℕ) (n : ℕ) → 1 ≤ n → Rising xs n → get_or xs (n - 1) 0 < get_or xs n 0 → Rising xs (n + 1)
-rising-more xs n b r s = record {
-  pairs = λ i j l h.
-      ⊎_elim
-      (λ (k : j < n). r.pairs i j l k)
-      (λ (k : n ≤ j).
-      let e : j ≡ n = omega arith in
-      let v : get_or xs j 0 ≡ get_or xs n 0 = ap (λ z. get_or xs z 0) e in
-      ⊎_elim
-      (λ (d : i ≡ n - 1). let w : get_or xs i 0 ≡ get_or xs (n - 1) 0 = ap (λ z. get_or xs z 0) d in omega arith)
-      (λ (d : i ≡ n - 1 → ⊥).
-      let f : i < n - 1 = omega arith in
-      let g : n - 1 < n = omega arith in
-      let q : get_or xs i 0 < get_or xs (n - 1) 0 = r.pairs i (n - 1) f g in omega arith)
-      (cases_eq i (n - 1)))
-      (cases_lt j n);
-}
+-- Neighbours in order.
+pub ascends-from : (xs : List ℕ) → ((k : ℕ) → k + 1 < length xs → get_or xs k 0 < get_or xs (k + 1) 0) → Ascends xs
+ascends-from xs up i zero l h = absurd (omega arith)
+ascends-from xs up i (suc j) l h =
+    let s : get_or xs j 0 < get_or xs (suc j) 0 = rw (add-one j) at (up j (omega arith)) in
+    ⊎_elim
+    (λ (e : i ≡ j). let q : get_or xs i 0 ≡ get_or xs j 0 = ap (λ k. get_or xs k 0) e in omega arith)
+    (λ (n : i ≡ j → ⊥). let q = ascends-from xs up i j (omega arith) (omega arith) in omega arith)
+    (cases_eq i j)
+
+-- The library's search for an item.
+pub any-mem : (x : ℕ) (xs : List ℕ) → list_any (λ y. eqb y x) xs ≡ mem x xs
+any-mem x [] = refl
+any-mem x (y ∷ ys) = let i = any-mem x ys in grind (arith, nat_tests)
