@@ -153,17 +153,3 @@ module _ (s : Sheet) (c : List Bool) (size : length c ≡ s.m) (fit : unfit s �
 
   pub lay-exact : agree c (only s.m []) ≡ false → agree c (only s.m (starts s)) ≡ true → lay_fault s c ≡ None
   lay-exact e f = past ∙ cond-false (agree c (only s.m [])) _ _ e ∙ cond-true (agree c (only s.m (starts s))) _ _ f
-
--- A list without a fault has no link 0, and neither has what follows its first link.
-opened : (m : ℕ) (seen : List ℕ) (x : ℕ) (xs : List ℕ) → list_fault m seen (x ∷ xs) ≡ None
-    → (cond (eqb x 0) true (ltb m x) ≡ false) × (list_fault m (seen ++ x ∷ []) xs ≡ None)
-opened m seen x xs e =
-    let after : Option PlayerFault = list_fault m (seen ++ x ∷ []) xs in
-    let a = cond-none (cond (eqb x 0) true (ltb m x)) (Refused (LinkOutside x)) (cond (mem x seen) (Some (Refused (CarriesAlready x))) after) e in
-    (a.0, (cond-none (mem x seen) (Refused (CarriesAlready x)) after a.1).1)
-
-pub list-nonzero : (m : ℕ) (seen xs : List ℕ) → list_fault m seen xs ≡ None → (j : ℕ) → j < length xs → get_or xs j 0 ≡ 0 → ⊥
-list-nonzero m seen [] e j h z = omega arith
-list-nonzero m seen (x ∷ xs) e zero h z =
-    false≢true (sym (opened m seen x xs e).0 ∙ ap (λ b. cond b true (ltb m x)) (eq-eqb x 0 z))
-list-nonzero m seen (x ∷ xs) e (suc j) h z = list-nonzero m (seen ++ x ∷ []) xs (opened m seen x xs e).1 j (omega arith) z

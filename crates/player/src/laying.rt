@@ -13,18 +13,12 @@ use faults::PlayerFault;
 
 /// Whether exactly the listed links carry.
 fn carries_only<F: Fabric>(fabric: &F, m: u32, list: &StartList) -> bool
-    requires size { length (F.Fabric.carrying fabric.now) ≡ m }
-    requires sound { list_fault m [] list.now.links.now ≡ None }
+    requires { length (F.Fabric.carrying fabric.now) ≡ m }
     ensures { result ≡ agree (F.Fabric.carrying fabric.now) (only m list.now.links.now) }
 {
-    let mut below = 0;
     for link in 1..=m {
-        let listed = list.lists(link, below);
-        if fabric.look(link) != Ok(listed) {
+        if fabric.look(link) != Ok(list.lists(link)) {
             return false;
-        }
-        if listed {
-            below += 1;
         }
     }
     true

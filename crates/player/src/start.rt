@@ -1,7 +1,7 @@
-//! A start list. In an ascending one, as drawn plans have it, no link is searched for.
+//! A start list. In an ascending one, as drawn plans have it, a link is found fast, and none is listed twice.
 
 ghost use Rattle.std.specs.Prelude.{◌≡◌, true, []};
-ghost use Rattle.player.specs.Start.{mem, list_fault, Ascends, Parts};
+ghost use Rattle.player.specs.Start.{mem, list_fault, Ascends};
 ghost use Rattle.network.specs.Ends.{unless};
 
 use faults::{FabricFault, PlayerFault};
@@ -25,13 +25,12 @@ impl<'s> StartList<'s> {
         }
     }
 
-    /// Whether a link is listed, where so many links of the list are below it if the list ascends.
-    pub fn lists(&self, link: u32, below: usize) -> bool
-        requires { self.now.ascending ≡ true → Parts self.now.links.now below link }
+    /// Whether a link is in the list.
+    pub fn lists(&self, link: u32) -> bool
         ensures { result ≡ mem link self.now.links.now }
     {
         if self.ascending {
-            self.links.get(below) == Some(&link)
+            self.links.binary_search(&link).is_ok()
         } else {
             self.links.contains(&link)
         }

@@ -1,11 +1,7 @@
-use Rattle.std.proofs.Common.{◌≡◌, ℕ, ◌<◌, ◌≤◌, true}
+use Rattle.std.proofs.Common.{◌≡◌, ℕ, ◌<◌, ◌≤◌}
 use Rattle.fabrics.specs.Meaning.{carries}
-use Rattle.player.specs.Start.{mem, Parts}
+use Rattle.player.specs.Start.{mem}
 use Rattle.player.proofs.laying.carries_only.Given as goal
 
 abbrev pub invariant-loop-link : goal.invariant-loop-link
-invariant-loop-link g l = record {
-  each : (k : ℕ) → 1 ≤ k → k < l.link → carries (g.F.Fabric.carrying l.fabric) k ≡ mem k l.list.links.now;
-  few : l.below < l.link;
-  parts : l.list.ascending ≡ true → Parts l.list.links.now l.below l.link;
-}
+invariant-loop-link g l = (k : ℕ) → 1 ≤ k → k < l.link → carries (g.F.Fabric.carrying l.fabric) k ≡ mem k l.list.links.now

@@ -1,7 +1,7 @@
 use Rattle.std.proofs.Common.{◌≡◌, true, false, get_or, take, Err, sym, ap, ◌∙◌}
 use Rattle.network.specs.Ends.{unless}
 use Rattle.player.specs.Start.{mem}
-use Rattle.player.proofs.Places.{parts-new, any-mem}
+use Rattle.player.proofs.Places.{mem-new, any-mem}
 use Rattle.player.proofs.Walks.{fault-twice, fault-next}
 use Rattle.player.proofs.start.StartList.check.Goals as goal
 use Rattle.player.proofs.start.StartList.check.Goals.{else-not-self-via-then-not-self+else-contains, else-not-self-via-else-not-self}
@@ -24,6 +24,6 @@ loop-i-preserved c =
     elim c.else-not-self.branch [
       | else-not-self-via-then-not-self+else-contains w ↦
           sym (any-mem (get_or xs i 0) (take i xs)) ∙ sym w.contains.ensures.value ∙ w.if-contains.false
-      | else-not-self-via-else-not-self w ↦ parts-new xs i (c.args.self.now.order w.if-not-self.false) c.loop-i-test.true
+      | else-not-self-via-else-not-self w ↦ mem-new xs i (c.args.self.now.order w.if-not-self.false) c.loop-i-test.true
     ] in
     fault-next c.args.m xs i c.loop-i-test.true c.if-link-eq0.false c.if-link-m.false new ∙ c.loop-i.invariant

@@ -1,12 +1,10 @@
-use Rattle.std.proofs.Common.{refl, ◌∙◌, arith}
-use Rattle.player.proofs.Places.{parts-got, any-mem}
+use Rattle.std.proofs.Common.{◌∙◌}
+use Rattle.player.proofs.Places.{mem-searched, any-mem}
 use Rattle.player.proofs.start.StartList.lists.Goals as goal
 
 pub returns-then-self : goal.returns-then-self
 returns-then-self c =
-    c.eq.ensures
-    ∙ parts-got c.args.self.now.links.now c.args.below c.args.link (c.requires c.if-self.true) c.get.result _ refl _
-    c.get.ensures.lookup.3 (c.get.ensures.lookup.4 (omega arith) 0)
+    c.is_ok.ensures.value ∙ mem-searched c.args.self.now.links.now c.args.link (c.args.self.now.order c.if-self.true) _ c.binary_search.ensures.position
 
 pub returns-else-self : goal.returns-else-self
 returns-else-self c = c.contains.ensures.value ∙ any-mem c.args.link c.args.self.now.links.now
