@@ -1,18 +1,15 @@
 -- The flags of which exactly those of a list are up.
-use Rattle.std.proofs.Common.{◌≡◌, ℕ, zero, suc, ◌+◌, ◌-◌, ◌<◌, ◌≤◌, Bool, true, false, cond, eqb, ltb, List, [], ◌∷◌, ◌++◌, length, get_or, take, drop, set, Some, None, Option, inl, inr, sym, refl, ap, ◌∙◌, ⊎_elim, add-one, arith}
+use Rattle.std.proofs.Common.{◌≡◌, ℕ, zero, suc, ◌+◌, ◌-◌, ◌<◌, ◌≤◌, Bool, true, false, cond, eqb, List, [], ◌∷◌, ◌++◌, length, get_or, take, set, Some, None, inl, inr, sym, refl, ap, ◌∙◌, ⊎_elim, add-one, arith}
 use Rattle.std.proofs.lemmas.List.{length-append, length-set, get_or_append_left, get_or_at, get_or-set_same, get_or-set_other, ext_get_or, take_more}
-use Rattle.std.proofs.lemmas.Bool.{eq-eqb, ne_eqb, cases_eq, cases_lt, cases_Bool, false≢true, cond-true, cond-false}
-use Rattle.faults.specs.declared.PlayerFault.{PlayerFault}
-use Rattle.faults.specs.declared.FabricFault.TheVariants.{LinkOutside, CarriesAlready}
-use Rattle.faults.specs.declared.PlayerFault.TheVariants.{NotBlank, Refused}
+use Rattle.std.proofs.lemmas.Bool.{eq-eqb, ne_eqb, cases_eq, cases_lt, cases_Bool, cond-true, cond-false}
+use Rattle.faults.specs.declared.PlayerFault.TheVariants.{NotBlank}
 use Rattle.network.specs.Ends.{or_else}
 use Rattle.player.specs.Plan.{Sheet, starts, unfit}
 use Rattle.player.specs.Start.{mem, list_fault}
 use Rattle.player.specs.Lay.{only, agree, lay_fault}
 use Rattle.fabrics.specs.Meaning.{carries, enable_fault}
 use Rattle.player.proofs.Grants.{among_in, enable-granted}
-use Rattle.player.proofs.Nones.{cond-none}
-use Rattle.player.proofs.Walks.{fault-zero, fault-over, fault-twice, fault-next}
+use Rattle.player.proofs.Walks.{Sound}
 
 pub length-only : (m : ℕ) (xs : List ℕ) → length (only m xs) ≡ m
 length-only zero xs = refl
@@ -86,28 +83,6 @@ pub agree-self : (c : List Bool) → agree c c ≡ true
 agree-self [] = refl
 agree-self (true ∷ xs) = agree-self xs
 agree-self (false ∷ xs) = agree-self xs
-
--- What a list without a fault says of its link at place i.
-pub record Sound (m : ℕ) (xs : List ℕ) (i : ℕ) : Type 0 where
-  pub some : get_or xs i 0 ≡ 0 → ⊥
-  pub within : get_or xs i 0 ≤ m
-  pub first : mem (get_or xs i 0) (take i xs) ≡ false
-  pub next : list_fault m (take (i + 1) xs) (drop (i + 1) xs) ≡ None
-
-pub sound-at : (m : ℕ) (xs : List ℕ) (i : ℕ) → i < length xs → list_fault m (take i xs) (drop i xs) ≡ None → Sound m xs i
-sound-at m xs i h e =
-    ⊎_elim
-    (λ z. let f = fault-zero m xs i h z in let q : ◌≡◌ {A = ℕ} 0 1 = cc in absurd (omega arith))
-    (λ z.
-    ⊎_elim
-    (λ o. let f = fault-over m xs i h z o in let q : ◌≡◌ {A = ℕ} 0 1 = cc in absurd (omega arith))
-    (λ o.
-    ⊎_elim
-    (λ t. let f = fault-twice m xs i h z o t in let q : ◌≡◌ {A = ℕ} 0 1 = cc in absurd (omega arith))
-    (λ t. record { some = z; within = o; first = t; next = fault-next m xs i h z o t ∙ e })
-    (cases_Bool (mem (get_or xs i 0) (take i xs))))
-    (cases_lt m (get_or xs i 0)))
-    (cases_eq (get_or xs i 0) 0)
 
 -- One link of the list more enabled.
 pub lit-more : (m : ℕ) (xs : List ℕ) (i : ℕ) (c d : List Bool) → i < length xs → Sound m xs i → c ≡ only m (take i xs)

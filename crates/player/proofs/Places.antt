@@ -7,7 +7,7 @@ use Rattle.std.specs.Result.{MatchResult, is_ok}
 use Rattle.std.proofs.lemmas.List.Sorted.{searched}
 use Rattle.std.proofs.lemmas.Bool.Decides.{nat_tests}
 use Rattle.std.proofs.lemmas.List.{length-take-le, get_or-take}
-use Rattle.std.proofs.lemmas.Bool.{eq-eqb, ne_eqb, cases_eq, cases_lt, true≢false}
+use Rattle.std.proofs.lemmas.Bool.{eq-eqb, ne_eqb, cases_eq, cases_lt}
 use Rattle.player.specs.Start.{mem, Ascends}
 
 pub mem-place : (x : ℕ) (xs : List ℕ) (j : ℕ) → j < length xs → x ≡ get_or xs j 0 → mem x xs ≡ true

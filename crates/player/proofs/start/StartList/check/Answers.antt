@@ -2,7 +2,7 @@ use Rattle.std.proofs.Common.{◌≡◌, true, false, get_or, take, Err, sym, ap
 use Rattle.network.specs.Ends.{unless}
 use Rattle.player.specs.Start.{mem}
 use Rattle.player.proofs.Places.{mem-new, any-mem}
-use Rattle.player.proofs.Walks.{fault-twice, fault-next}
+use Rattle.player.proofs.Walks.{fault_twice, fault_next}
 use Rattle.player.proofs.start.StartList.check.Goals as goal
 use Rattle.player.proofs.start.StartList.check.Goals.{else-not-self-via-then-not-self+else-contains, else-not-self-via-else-not-self}
 
@@ -14,7 +14,7 @@ returns-then-contains c =
     sym (any-mem (get_or xs i 0) (take i xs)) ∙ sym c.contains.ensures.value ∙ c.if-contains.true in
     ap (λ f. Err f) c.into-then-contains.ensures
     ∙ ap (λ o. unless o tt)
-    (sym (fault-twice c.args.m xs i c.loop-i-test.true c.if-link-eq0.false c.if-link-m.false e) ∙ c.loop-i.invariant)
+    (sym (fault_twice c.args.m xs i c.loop-i-test.true c.if-link-eq0.false c.if-link-m.false e) ∙ c.loop-i.invariant)
 
 pub loop-i-preserved : goal.loop-i-preserved
 loop-i-preserved c =
@@ -26,4 +26,4 @@ loop-i-preserved c =
           sym (any-mem (get_or xs i 0) (take i xs)) ∙ sym w.contains.ensures.value ∙ w.if-contains.false
       | else-not-self-via-else-not-self w ↦ mem-new xs i (c.args.self.now.order w.if-not-self.false) c.loop-i-test.true
     ] in
-    fault-next c.args.m xs i c.loop-i-test.true c.if-link-eq0.false c.if-link-m.false new ∙ c.loop-i.invariant
+    fault_next c.args.m xs i c.loop-i-test.true c.if-link-eq0.false c.if-link-m.false new ∙ c.loop-i.invariant
