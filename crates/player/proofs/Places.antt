@@ -12,16 +12,13 @@ use Rattle.player.specs.Start.{mem, Ascends}
 
 pub mem-place : (x : ℕ) (xs : List ℕ) (j : ℕ) → j < length xs → x ≡ get_or xs j 0 → mem x xs ≡ true
 mem-place x [] j h e = absurd (omega arith)
-mem-place x (y ∷ ys) zero h e = ap (λ b. cond b true (mem x ys)) (eq-eqb x y e)
-mem-place x (y ∷ ys) (suc j) h e =
-    ap (λ b. cond (eqb x y) true b) (mem-place x ys j (omega arith) e)
-    ∙ elim (eqb x y) as (λ b. cond b true true ≡ true) [ true ↦ refl | false ↦ refl ]
+mem-place x (y ∷ ys) zero h e = grind (arith, nat_tests)
+mem-place x (y ∷ ys) (suc j) h e = let i = mem-place x ys j (omega arith) e in grind (arith, nat_tests)
 
 pub mem-nowhere : (x : ℕ) (xs : List ℕ) → ((j : ℕ) → j < length xs → x ≡ get_or xs j 0 → ⊥) → mem x xs ≡ false
 mem-nowhere x [] n = refl
 mem-nowhere x (y ∷ ys) n =
-    ap (λ b. cond b true (mem x ys)) (ne_eqb x y (n 0 (omega arith)))
-    ∙ mem-nowhere x ys (λ j h. n (suc j) (omega arith))
+    let i = mem-nowhere x ys (λ j h. n (suc j) (omega arith)) in let z = n 0 (omega arith) in grind (arith, nat_tests)
 
 -- What a search in an ascending list tells.
 pub mem-searched : (xs : List ℕ) (x : ℕ) → Ascends xs → (r : Result ℕ ℕ) → IsBinarySearchResult (λ y. nat_cmp y x) xs r → is_ok r ≡ mem x xs
