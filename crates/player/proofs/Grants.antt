@@ -1,11 +1,10 @@
 -- When a fabric enables a link, when it disables one, and what a look tells.
-use Rattle.std.proofs.Common.{◌≡◌, ℕ, ◌≤◌, Bool, true, false, List, length, Some, None, Ok, Err, Result, refl, sym, ap, ◌∙◌, arith}
+use Rattle.std.proofs.Common.{◌≡◌, ℕ, ◌≤◌, Bool, true, false, List, length, None, Ok, Err, Result, refl, sym, arith}
 use mathlib.Core.Bool.{beq}
 use Rattle.std.specs.Result.{result_eq, IsOk}
-use Rattle.std.proofs.lemmas.Bool.{false≢true, true≢false}
 use Rattle.std.proofs.lemmas.Bool.Decides.{nat_tests}
 use Rattle.faults.specs.declared.FabricFault.{FabricFault}
-use Rattle.fabrics.specs.Meaning.{among, carries, look_fault, enable_fault, disable_fault, Looks, Enables}
+use Rattle.fabrics.specs.Meaning.{among, carries, enable_fault, disable_fault, Looks, Enables}
 use Rattle.player.proofs.Nones.{none-some}
 
 module _ (c : List Bool) (k : ℕ) where
