@@ -24,8 +24,8 @@ only_at (suc m) xs i h = elim (cases_lt i m) [
       get_or_at (only m xs) (mem (suc m) xs) [] false i (length-only m xs ∙ e) ∙ ap (λ n. mem (suc n) xs) e
 ]
 
-pub flag : (m : ℕ) (xs : List ℕ) (k : ℕ) → 1 ≤ k → k ≤ m → carries (only m xs) k ≡ mem k xs
-flag m xs k some most =
+pub carries-only : (m : ℕ) (xs : List ℕ) (k : ℕ) → 1 ≤ k → k ≤ m → carries (only m xs) k ≡ mem k xs
+carries-only m xs k some most =
     let s : suc (k - 1) ≡ k = omega arith in only_at m xs (k - 1) (omega arith) ∙ ap (λ y. mem y xs) s
 
 -- One link more.
@@ -73,7 +73,7 @@ lit-more m xs i c d h s e f =
 -- A fabric enables a link that is not yet in the list.
 pub only-enable : (m : ℕ) (xs : List ℕ) (x : ℕ) → (x ≡ 0 → ⊥) → x ≤ m → mem x xs ≡ false → enable_fault (only m xs) x ≡ None
 only-enable m xs x n h e =
-    enable-granted (only m xs) x (among_in (only m xs) x n (rw (length-only m xs) h)) (flag m xs x (omega arith) h ∙ e)
+    enable-granted (only m xs) x (among_in (only m xs) x n (rw (length-only m xs) h)) (carries-only m xs x (omega arith) h ∙ e)
 
 -- Whether exactly the listed links carry, link by link.
 module _ (m : ℕ) (xs : List ℕ) (c : List Bool) (size : length c ≡ m) where
@@ -89,7 +89,7 @@ module _ (m : ℕ) (xs : List ℕ) (c : List Bool) (size : length c ≡ m) where
 
   pub only-but : (k : ℕ) → 1 ≤ k → k ≤ m → (carries c k ≡ mem k xs → ⊥) → false ≡ agree c (only m xs)
   only-but k some most n = elim (cases_Bool (agree c (only m xs))) [
-    | inl t ↦ absurd (n (ap (λ d. carries d k) (agree-is c (only m xs) t) ∙ flag m xs k some most))
+    | inl t ↦ absurd (n (ap (λ d. carries d k) (agree-is c (only m xs) t) ∙ carries-only m xs k some most))
     | inr f ↦ sym f
   ]
 

@@ -1,5 +1,5 @@
 -- Whether an item is in a list, by its place and by the library's searches.
-use Rattle.std.proofs.Common.{◌≡◌, ℕ, zero, suc, ◌+◌, ◌<◌, ◌≤◌, true, false, eqb, List, [], ◌∷◌, ◌++◌, ◌||◌, length, get_or, take, Ok, Err, Result, sym, refl, ap, inl, inr, add-one, arith}
+use Rattle.std.proofs.Common.{◌≡◌, ℕ, ◌<◌, ◌≤◌, true, false, eqb, List, [], ◌∷◌, ◌++◌, ◌||◌, length, get_or, take, Ok, Err, Result, sym, refl, ap, inl, inr, arith}
 use Rattle.std.specs.List.{list_any}
 use Rattle.std.specs.List.Sorted.{IsBinarySearchResult}
 use Rattle.std.specs.Ordering.{nat_cmp}
@@ -41,21 +41,12 @@ mem-searched xs x a r s = met r (searched xs x r s rising)
     met (Err i) m = sym (mem-nowhere x xs (λ k h e. elim (cases_lt k i) [ inl l ↦ omega (arith, m.1 k l) | inr g ↦ omega (arith, m.2 k g h) ]))
 
 -- An item of an ascending list is not among those before it.
-pub mem-new : (xs : List ℕ) (i : ℕ) → Ascends xs → i < length xs → mem (get_or xs i 0) (take i xs) ≡ false
-mem-new xs i a h =
+pub mem_new : (xs : List ℕ) (i : ℕ) → Ascends xs → i < length xs → mem (get_or xs i 0) (take i xs) ≡ false
+mem_new xs i a h =
     mem-nowhere (get_or xs i 0) (take i xs) (λ j l e.
     let b : j < i = omega (arith, length-take-le i xs (omega arith)) in omega (arith, get_or-take i xs j 0 b, a j i b h))
 
--- Neighbours in order.
-pub ascends-from : (xs : List ℕ) → ((k : ℕ) → k + 1 < length xs → get_or xs k 0 < get_or xs (k + 1) 0) → Ascends xs
-ascends-from xs up i zero l h = absurd (omega arith)
-ascends-from xs up i (suc j) l h =
-    let s : get_or xs j 0 < get_or xs (suc j) 0 = rw (add-one j) at (up j (omega arith)) in elim (cases_eq i j) [
-      | inl e ↦ let q = ap (λ k. get_or xs k 0) e in omega arith
-      | inr n ↦ omega (arith, ascends-from xs up i j (omega arith) (omega arith))
-    ]
-
 -- The library's search for an item.
-pub any-mem : (x : ℕ) (xs : List ℕ) → list_any (λ y. eqb y x) xs ≡ mem x xs
-any-mem x [] = refl
-any-mem x (y ∷ ys) = let i = any-mem x ys in grind (arith, nat_tests)
+pub any_mem : (x : ℕ) (xs : List ℕ) → list_any (λ y. eqb y x) xs ≡ mem x xs
+any_mem x [] = refl
+any_mem x (y ∷ ys) = let i = any_mem x ys in grind (arith, nat_tests)

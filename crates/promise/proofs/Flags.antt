@@ -10,7 +10,7 @@ use Rattle.player.specs.Start.{mem}
 use Rattle.player.specs.Lay.{only}
 use Rattle.player.specs.Moves.{dimmed, lit}
 use Rattle.promise.specs.Undo.{Exchanged}
-use Rattle.player.proofs.Only.{length-only, only_at}
+use Rattle.player.proofs.Only.{length-only, carries-only}
 
 mem-among : (k : ℕ) (xs : List ℕ) → mem k xs ≡ among k xs
 unfolding among
@@ -19,9 +19,7 @@ mem-among k (x ∷ xs) = let i = mem-among k xs in grind (arith, nat_tests)
 
 -- Whether link k carries, if exactly the listed ones do.
 pub flag : (m : ℕ) (xs : List ℕ) (k : ℕ) → 1 ≤ k → k ≤ m → carries (only m xs) k ≡ among k xs
-flag m xs k h l =
-    let s : suc (k - 1) ≡ k = omega arith in
-    only_at m xs (k - 1) (omega arith) ∙ ap (λ y. mem y xs) s ∙ mem-among k xs
+flag m xs k h l = carries-only m xs k h l ∙ mem-among k xs
 
 past : (m : ℕ) (xs : List ℕ) (k : ℕ) → m < k → carries (only m xs) k ≡ false
 past m xs k h = get_or_past (only m xs) (k - 1) false (omega (arith, length-only m xs))
