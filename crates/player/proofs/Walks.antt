@@ -19,22 +19,22 @@ module _ (m : ℕ) (xs : List ℕ) (i : ℕ) (h : i < length xs) where
   abbrev at : ℕ
   at = get_or xs i 0
 
-  abbrev next_fault : Option PlayerFault
-  next_fault = list_fault m (take (i + 1) xs) (drop (i + 1) xs)
+  abbrev after : Option PlayerFault
+  after = list_fault m (take (i + 1) xs) (drop (i + 1) xs)
 
   opened : list_fault m (take i xs) (drop i xs)
-      ≡ cond (cond (eqb at 0) true (ltb m at)) (Some (Refused (LinkOutside at))) (cond (mem at (take i xs)) (Some (Refused (CarriesAlready at))) next_fault)
+      ≡ cond (cond (eqb at 0) true (ltb m at)) (Some (Refused (LinkOutside at))) (cond (mem at (take i xs)) (Some (Refused (CarriesAlready at))) after)
   opened = rw (take_more xs i 0 h) (at_drop_more (list_fault m (take i xs)) xs i 0 h)
 
   pub fault_twice : (at ≡ 0 → ⊥) → at ≤ m → mem at (take i xs) ≡ true → list_fault m (take i xs) (drop i xs) ≡ Some (Refused (CarriesAlready at))
   fault_twice n o e = let q = opened in grind (arith, nat_tests)
 
-  pub fault_next : (at ≡ 0 → ⊥) → at ≤ m → mem at (take i xs) ≡ false → next_fault ≡ list_fault m (take i xs) (drop i xs)
+  pub fault_next : (at ≡ 0 → ⊥) → at ≤ m → mem at (take i xs) ≡ false → after ≡ list_fault m (take i xs) (drop i xs)
   fault_next n o e = let q = opened in grind (arith, nat_tests)
 
   pub sound_at : list_fault m (take i xs) (drop i xs) ≡ None → Sound m xs i
   sound_at e =
       let a = cond-none (cond (eqb at 0) true (ltb m at)) (Refused (LinkOutside at)) _ (sym opened ∙ e) in
-      let b = cond-none (mem at (take i xs)) (Refused (CarriesAlready at)) next_fault a.1 in
+      let b = cond-none (mem at (take i xs)) (Refused (CarriesAlready at)) after a.1 in
       let s : cond (eqb at 0) true (ltb m at) ≡ false = a.0 in
       record { some = λ z. grind (arith, nat_tests); within = grind (arith, nat_tests); first = b.0; next = b.1 }
