@@ -22,7 +22,7 @@ use Rattle.promise.specs.Installation.{Network, after, DrawnPlan, moment, drawn_
 use Rattle.promise.specs.Calls.{Request, One, this, older, opened, drew, laid, played, departed, arrived_at, Step, open-granted, open-refused, draw-granted, draw-refused, lay-granted, lay-refused, forwards, backwards, joins, cancels, abandons, finishes, Runs, none, then, Reached}
 use Rattle.promise.specs.declared.answer.Answer.{Answer}
 use Rattle.promise.specs.Promise.{carried, CarriesLeastTree, Stands, NeverBroken}
-use Rattle.promise.proofs.Flags.{remade, unmade, reversed, fewer}
+use Rattle.promise.proofs.Flags.{remade, unput, reversed, fewer}
 use Rattle.promise.proofs.Accepted.{Accepted, open-accepts, draw-accepts, all-accepted}
 use Rattle.promise.proofs.Trees.{fewer-loops, tree-carried, start-read}
 use Rattle.promise.proofs.Entries.{entry-exchanged, entry-names, entry_read, least-bound}
@@ -167,7 +167,7 @@ module _ {W : Type 0} (side : W → W → Side) (o : Sided side) where
           ∙ remade (tree side d t) (tree side d u) w.leaving w.coming x in
           let z : lit (carrying f) b.leaving ≡ tree side d t =
           ap (λ z. lit z b.leaving) cf ∙ ap (lit (dimmed (tree side d t) w.leaving)) l
-          ∙ unmade (tree side d t) w.leaving (λ n. (x.out n).0) in
+          ∙ unput false true (tree side d t) w.leaving (λ n. (x.out n).0) in
           with-player f (between b t u d) i.laid
           (record {
             own = k.own;
