@@ -1,21 +1,15 @@
--- When a fabric enables a link, when it disables one, and what a look tells.
+-- When a fabric has a link, when it enables one, and what a look tells.
 use Rattle.std.proofs.Common.{◌≡◌, ℕ, ◌≤◌, Bool, true, false, List, length, None, Ok, Err, Result, refl, sym, arith}
 use mathlib.Core.Bool.{beq}
 use Rattle.std.specs.Result.{result_eq, IsOk}
 use Rattle.std.proofs.lemmas.Bool.Decides.{nat_tests}
 use Rattle.faults.specs.declared.FabricFault.{FabricFault}
-use Rattle.fabrics.specs.Meaning.{among, carries, enable_fault, disable_fault, Looks, Enables}
+use Rattle.fabrics.specs.Meaning.{among, carries, enable_fault, Looks, Enables}
 use Rattle.player.proofs.Nones.{none-some}
 
 module _ (c : List Bool) (k : ℕ) where
   pub among_in : (k ≡ 0 → ⊥) → k ≤ length c → among c k ≡ true
   among_in n h = grind (arith, nat_tests)
-
-  pub enable-granted : among c k ≡ true → carries c k ≡ false → enable_fault c k ≡ None
-  enable-granted e f = grind arith
-
-  pub disable-granted : among c k ≡ true → carries c k ≡ true → disable_fault c k ≡ None
-  disable-granted e f = grind arith
 
   -- A link that a fabric has no ground to refuse is enabled.
   pub enabled : (r : Result (Unit {0}) FabricFault) (d : List Bool) → enable_fault c k ≡ None → Enables c k r d → IsOk r

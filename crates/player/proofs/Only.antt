@@ -7,7 +7,7 @@ use Rattle.fabrics.specs.Meaning.{carries, enable_fault}
 use Rattle.player.specs.Plan.{Sheet, starts, unfit}
 use Rattle.player.specs.Start.{mem, list_fault}
 use Rattle.player.specs.Lay.{only, agree, lay_fault}
-use Rattle.player.proofs.Grants.{among_in, enable-granted}
+use Rattle.player.proofs.Grants.{among_in}
 use Rattle.player.proofs.Places.{mem-push}
 use Rattle.player.proofs.Walks.{Sound}
 
@@ -15,7 +15,7 @@ pub length-only : (m : ℕ) (xs : List ℕ) → length (only m xs) ≡ m
 length-only zero xs = refl
 length-only (suc m) xs = omega (arith, length-append (only m xs) (mem (suc m) xs ∷ []), length-only m xs)
 
-pub only_at : (m : ℕ) (xs : List ℕ) (i : ℕ) → i < m → get_or (only m xs) i false ≡ mem (suc i) xs
+only_at : (m : ℕ) (xs : List ℕ) (i : ℕ) → i < m → get_or (only m xs) i false ≡ mem (suc i) xs
 only_at zero xs i h = absurd (omega arith)
 only_at (suc m) xs i h = elim (cases_lt i m) [
   | inl l ↦ get_or_append_left (only m xs) (mem (suc m) xs ∷ []) false i (omega (arith, length-only m xs)) ∙ only_at m xs i l
@@ -29,7 +29,7 @@ carries-only m xs k some most =
     let s : suc (k - 1) ≡ k = omega arith in only_at m xs (k - 1) (omega arith) ∙ ap (λ y. mem y xs) s
 
 -- One link more.
-pub only_set : (m : ℕ) (xs : List ℕ) (x : ℕ) → (x ≡ 0 → ⊥) → x ≤ m → set (only m xs) (x - 1) true ≡ only m (xs ++ x ∷ [])
+only_set : (m : ℕ) (xs : List ℕ) (x : ℕ) → (x ≡ 0 → ⊥) → x ≤ m → set (only m xs) (x - 1) true ≡ only m (xs ++ x ∷ [])
 only_set m xs x n h =
     let l : length (set (only m xs) (x - 1) true) ≡ m = length-set (only m xs) (x - 1) true ∙ length-only m xs in
     ext_get_or false (set (only m xs) (x - 1) true) (only m (xs ++ x ∷ []))
@@ -73,7 +73,9 @@ lit-more m xs i c d h s e f =
 -- A fabric enables a link that is not yet in the list.
 pub only-enable : (m : ℕ) (xs : List ℕ) (x : ℕ) → (x ≡ 0 → ⊥) → x ≤ m → mem x xs ≡ false → enable_fault (only m xs) x ≡ None
 only-enable m xs x n h e =
-    enable-granted (only m xs) x (among_in (only m xs) x n (rw (length-only m xs) h)) (carries-only m xs x (omega arith) h ∙ e)
+    let has = among_in (only m xs) x n (omega (arith, length-only m xs)) in
+    let off = carries-only m xs x (omega arith) h ∙ e in
+    grind arith
 
 -- Whether exactly the listed links carry, link by link.
 module _ (m : ℕ) (xs : List ℕ) (c : List Bool) (size : length c ≡ m) where

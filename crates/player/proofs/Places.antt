@@ -14,10 +14,10 @@ use Rattle.player.specs.Start.{mem, Ascends}
 mem-step : (x y : ℕ) (ys : List ℕ) → mem x (y ∷ ys) ≡ (eqb x y || mem x ys)
 mem-step x y ys = grind (arith, nat_tests)
 
-pub mem-place : (x : ℕ) (xs : List ℕ) (j : ℕ) → j < length xs → x ≡ get_or xs j 0 → mem x xs ≡ true
+mem-place : (x : ℕ) (xs : List ℕ) (j : ℕ) → j < length xs → x ≡ get_or xs j 0 → mem x xs ≡ true
 mem-place x xs j h e = or_at (mem x) (eqb x) refl (mem-step x) xs j 0 h (eq-eqb x (get_or xs j 0) e)
 
-pub mem-nowhere : (x : ℕ) (xs : List ℕ) → ((j : ℕ) → j < length xs → x ≡ get_or xs j 0 → ⊥) → mem x xs ≡ false
+mem-nowhere : (x : ℕ) (xs : List ℕ) → ((j : ℕ) → j < length xs → x ≡ get_or xs j 0 → ⊥) → mem x xs ≡ false
 mem-nowhere x xs n = or_from_places (mem x) (eqb x) refl (mem-step x) xs 0 (λ j h. ne_eqb x (get_or xs j 0) (n j h))
 
 pub mem-push : (y x : ℕ) (xs : List ℕ) → mem y (xs ++ x ∷ []) ≡ (mem y xs || eqb y x)

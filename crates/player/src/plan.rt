@@ -9,6 +9,7 @@ use faults::PlayerFault;
 
 /// A plan of k changes for n nodes and m links: its start list in the first n - 1 places of `start`, and in the first k
 /// of `entries` for each change the link that leaves and the link that comes. 0 stands for none.
+// Not an Option: a draw writes its entries as numbers into lent memory.
 #[derive(Clone, Copy)]
 pub struct Plan<'s, 'e> {
     pub n: u32,
