@@ -34,6 +34,16 @@ dimmed c l = cond (l == 0) c (slice_set c (l - 1) false)
 abbrev pub lit : List Bool → ℕ → List Bool
 lit c l = cond (l == 0) c (slice_set c (l - 1) true)
 
+-- What answers a call that lets link l leave, before link e comes, and one that lets link l come, with the carrying links c before
+-- and d after.
+abbrev pub Leaves : {U : Type 0} → ℕ → ℕ → List Bool → Result U PlayerFault → List Bool → Type 0
+Leaves l e c (Ok u) d = (pair_fault c l e ≡ None) × (d ≡ dimmed c l)
+Leaves l e c (Err f) d = (pair_fault c l e ≡ Some f) × (d ≡ c)
+
+abbrev pub Comes : {U : Type 0} → ℕ → List Bool → Result U PlayerFault → List Bool → Type 0
+Comes l c (Ok u) d = (come_fault c l ≡ None) × (d ≡ lit c l)
+Comes l c (Err f) d = (come_fault c l ≡ Some f) × (d ≡ c)
+
 -- Why forward is refused, if it is: another plan, no entry left, or the fabric refuses a link of the entry.
 abbrev pub forward_fault : Rest → Sheet → List Bool → Option PlayerFault
 forward_fault p s c =

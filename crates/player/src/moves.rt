@@ -1,10 +1,10 @@
 //! The moves of a laid player.
 
-ghost use Rattle.std.specs.Prelude.{◌≡◌, ◌-◌, ◌≤◌, Some, None, MatchResult, OnErr, if◌then◌else◌};
+ghost use Rattle.std.specs.Prelude.{◌≡◌, ◌-◌, ◌≤◌, Some, None, OnErr, if◌then◌else◌};
 ghost use Rattle.faults.specs.declared.PlayerFault.TheVariants.{OtherPlan};
 ghost use Rattle.player.specs.Plan.{sheet, entry};
 ghost use Rattle.player.specs.States.{rest, way, unlike};
-ghost use Rattle.player.specs.Moves.{come_fault, pair_fault, dimmed, lit, next_fault, last_fault, turned, SetsOut, Settles, Forwards, Backwards, Joins, Cancels};
+ghost use Rattle.player.specs.Moves.{Leaves, Comes, next_fault, last_fault, turned, SetsOut, Settles, Forwards, Backwards, Joins, Cancels};
 ghost use Rattle.network.specs.Ends.{unless};
 
 use crate::plan::Plan;
@@ -14,7 +14,7 @@ use faults::{FabricFault, PlayerFault};
 
 /// Looks at the leaving link and the coming link, and disables the leaving one; 0 is skipped.
 fn part<F: Fabric>(fabric: &mut F, leaving: u32, coming: u32) -> Result<(), PlayerFault>
-    ensures answer { MatchResult result (λ _. (pair_fault (F.Fabric.carrying fabric.old) leaving coming ≡ None) × (F.Fabric.carrying fabric.new ≡ dimmed (F.Fabric.carrying fabric.old) leaving)) (λ f. pair_fault (F.Fabric.carrying fabric.old) leaving coming ≡ Some f) }
+    ensures answer { Leaves leaving coming (F.Fabric.carrying fabric.old) result (F.Fabric.carrying fabric.new) }
     ensures kept { OnErr result (fabric.new ≡ fabric.old) }
     ensures same { F.Fabric.shape fabric.new ≡ F.Fabric.shape fabric.old }
 {
@@ -32,7 +32,7 @@ fn part<F: Fabric>(fabric: &mut F, leaving: u32, coming: u32) -> Result<(), Play
 
 /// Enables a link that comes; 0 is skipped.
 fn bring<F: Fabric>(fabric: &mut F, link: u32) -> Result<(), PlayerFault>
-    ensures answer { MatchResult result (λ _. (come_fault (F.Fabric.carrying fabric.old) link ≡ None) × (F.Fabric.carrying fabric.new ≡ lit (F.Fabric.carrying fabric.old) link)) (λ f. come_fault (F.Fabric.carrying fabric.old) link ≡ Some f) }
+    ensures answer { Comes link (F.Fabric.carrying fabric.old) result (F.Fabric.carrying fabric.new) }
     ensures kept { OnErr result (fabric.new ≡ fabric.old) }
     ensures same { F.Fabric.shape fabric.new ≡ F.Fabric.shape fabric.old }
 {
