@@ -1,22 +1,30 @@
 -- When a chain of grounds gives no fault.
-use Rattle.std.proofs.Common.{◌≡◌, ℕ, Bool, true, false, cond, Some, None, Option, refl, arith}
-use Rattle.network.specs.Ends.{or_else}
+use Rattle.std.proofs.Common.{◌≡◌, Bool, true, false, cond, Some, None, Ok, Option, refl, arith}
+use Rattle.network.specs.Ends.{or_else, unless}
 
 pub none-some : {X : Type 0} (o : Option X) (x : X) → o ≡ None → o ≡ Some x → ⊥
-none-some o x e f = let z : ◌≡◌ {A = ℕ} 0 1 = cc in omega arith
+none-some o x e f = cc
 
 pub cond-none : {X : Type 0} (b : Bool) (f : X) (o : Option X) → cond b (Some f) o ≡ None → (b ≡ false) × (o ≡ None)
-cond-none true f o e = absurd (none-some (Some f) f e refl)
+cond-none true f o e = cc
 cond-none false f o e = (refl, e)
 
 pub cond-pass : {X : Type 0} (b : Bool) (f : X) (o : Option X) → cond b o (Some f) ≡ None → (b ≡ true) × (o ≡ None)
 cond-pass true f o e = (refl, e)
-cond-pass false f o e = absurd (none-some (Some f) f e refl)
+cond-pass false f o e = cc
 
 pub or-none : {X : Type 0} (o p : Option X) → or_else o p ≡ None → (o ≡ None) × (p ≡ None)
 or-none None p e = (refl, e)
-or-none (Some x) p e = absurd (none-some (Some x) x e refl)
+or-none (Some x) p e = cc
 
 pub none_or : {X : Type 0} (o p : Option X) → o ≡ None → p ≡ None → or_else o p ≡ None
-none_or None p e f = f
-none_or (Some x) p e f = e
+none_or o p e f = grind arith
+
+-- Where a call that only refuses has passed, there is no ground.
+pub passed : {X E : Type 0} (o : Option E) (x y : X) → Ok x ≡ unless o y → o ≡ None
+passed None x y e = refl
+passed (Some f) x y e = cc
+
+pub passed-if : {X E : Type 0} (b : Bool) (f : E) (x y : X) → Ok x ≡ unless (cond b (Some f) None) y → b ≡ false
+passed-if true f x y e = cc
+passed-if false f x y e = refl

@@ -1,124 +1,66 @@
 -- The flags of which exactly those of a list are up.
-use Rattle.std.proofs.Common.{◌≡◌, ℕ, zero, suc, ◌+◌, ◌-◌, ◌<◌, ◌≤◌, Bool, true, false, cond, not, eqb, ltb, List, [], ◌∷◌, ◌++◌, length, get_or, take, drop, set, Some, None, Option, sym, refl, ap, ◌∙◌, ⊎_elim, add-one, arith}
-use mathlib.Core.Bool.{beq}
-use Rattle.std.proofs.lemmas.List.{length-append, length-set, get_or_append_left, get_or_at, get_or-set_same, get_or-set_other, ext_get_or, take_more, length-take-le}
-use Rattle.std.proofs.lemmas.Bool.{eq-eqb, ne_eqb, cases_eq, cases_lt, cases_Bool, false≢true, true≢false, cond-true, cond-false}
-use Rattle.faults.specs.declared.PlayerFault.{PlayerFault}
-use Rattle.faults.specs.declared.FabricFault.TheVariants.{LinkOutside, CarriesAlready}
-use Rattle.faults.specs.declared.PlayerFault.TheVariants.{NotBlank, Refused}
-use Rattle.network.specs.Ends.{or_else}
+use Rattle.std.proofs.Common.{◌≡◌, ℕ, zero, suc, ◌+◌, ◌-◌, ◌<◌, ◌≤◌, Bool, true, false, List, [], ◌∷◌, ◌++◌, length, get_or, take, set, None, inl, inr, sym, refl, ap, ◌∙◌, arith}
+use Rattle.std.proofs.lemmas.List.{length-append, length-set, get_or_append_left, get_or_at, get_or-set_same, get_or-set_other, ext_get_or, take_more}
+use Rattle.std.proofs.lemmas.Bool.{cases_eq, cases_lt, cases_Bool}
+use Rattle.std.proofs.lemmas.Bool.Decides.{nat_tests}
+use Rattle.fabrics.specs.Meaning.{carries, enable_fault}
 use Rattle.player.specs.Plan.{Sheet, starts, unfit}
 use Rattle.player.specs.Start.{mem, list_fault}
 use Rattle.player.specs.Lay.{only, agree, lay_fault}
-use Rattle.fabrics.specs.Meaning.{enable_fault}
-use Rattle.player.proofs.Grants.{among_in, enable-granted}
-use Rattle.player.proofs.Nones.{cond-none}
-use Rattle.player.proofs.Walks.{fault-zero, fault-over, fault-twice, fault-next}
+use Rattle.player.proofs.Grants.{among_in}
+use Rattle.player.proofs.Places.{mem-push}
+use Rattle.player.proofs.Walks.{Sound}
 
 pub length-only : (m : ℕ) (xs : List ℕ) → length (only m xs) ≡ m
 length-only zero xs = refl
-length-only (suc m) xs =
-    length-append (only m xs) (mem (suc m) xs ∷ []) ∙ ap (λ n. n + 1) (length-only m xs) ∙ add-one m
+length-only (suc m) xs = omega (arith, length-append (only m xs) (mem (suc m) xs ∷ []), length-only m xs)
 
-pub only_at : (m : ℕ) (xs : List ℕ) (i : ℕ) → i < m → get_or (only m xs) i false ≡ mem (suc i) xs
+only_at : (m : ℕ) (xs : List ℕ) (i : ℕ) → i < m → get_or (only m xs) i false ≡ mem (suc i) xs
 only_at zero xs i h = absurd (omega arith)
-only_at (suc m) xs i h =
-    ⊎_elim
-    (λ (l : i < m).
-    let k : i < length (only m xs) = rw (length-only m xs) l in
-    get_or_append_left (only m xs) (mem (suc m) xs ∷ []) false i k ∙ only_at m xs i l)
-    (λ (g : m ≤ i).
-    let e : m ≡ i = omega arith in
-    get_or_at (only m xs) (mem (suc m) xs) [] false i (length-only m xs ∙ e) ∙ ap (λ n. mem (suc n) xs) e)
-    (cases_lt i m)
+only_at (suc m) xs i h = elim (cases_lt i m) [
+  | inl l ↦ get_or_append_left (only m xs) (mem (suc m) xs ∷ []) false i (omega (arith, length-only m xs)) ∙ only_at m xs i l
+  | inr g ↦
+      let e : m ≡ i = omega arith in
+      get_or_at (only m xs) (mem (suc m) xs) [] false i (length-only m xs ∙ e) ∙ ap (λ n. mem (suc n) xs) e
+]
 
-pub mem-push : (y x : ℕ) (xs : List ℕ) → mem y (xs ++ x ∷ []) ≡ cond (mem y xs) true (eqb y x)
-mem-push y x [] = elim (eqb y x) as (λ b. cond b true false ≡ b) [ true ↦ refl | false ↦ refl ]
-mem-push y x (z ∷ zs) =
-    elim (eqb y z) as (λ b. cond b true (mem y (zs ++ x ∷ [])) ≡ cond (cond b true (mem y zs)) true (eqb y x))
-    [ true ↦ refl | false ↦ mem-push y x zs ]
-
-mem-same : (y x : ℕ) (xs : List ℕ) → y ≡ x → mem y (xs ++ x ∷ []) ≡ true
-mem-same y x xs e =
-    mem-push y x xs ∙ ap (λ b. cond (mem y xs) true b) (eq-eqb y x e)
-    ∙ elim (mem y xs) as (λ b. cond b true true ≡ true) [ true ↦ refl | false ↦ refl ]
-
-mem-other : (y x : ℕ) (xs : List ℕ) → (y ≡ x → ⊥) → mem y (xs ++ x ∷ []) ≡ mem y xs
-mem-other y x xs e =
-    mem-push y x xs ∙ ap (λ b. cond (mem y xs) true b) (ne_eqb y x e)
-    ∙ elim (mem y xs) as (λ b. cond b true false ≡ b) [ true ↦ refl | false ↦ refl ]
+pub carries-only : (m : ℕ) (xs : List ℕ) (k : ℕ) → 1 ≤ k → k ≤ m → carries (only m xs) k ≡ mem k xs
+carries-only m xs k some most =
+    let s : suc (k - 1) ≡ k = omega arith in only_at m xs (k - 1) (omega arith) ∙ ap (λ y. mem y xs) s
 
 -- One link more.
-pub only_set : (m : ℕ) (xs : List ℕ) (x : ℕ) → (x ≡ 0 → ⊥) → x ≤ m → set (only m xs) (x - 1) true ≡ only m (xs ++ x ∷ [])
+only_set : (m : ℕ) (xs : List ℕ) (x : ℕ) → (x ≡ 0 → ⊥) → x ≤ m → set (only m xs) (x - 1) true ≡ only m (xs ++ x ∷ [])
 only_set m xs x n h =
     let l : length (set (only m xs) (x - 1) true) ≡ m = length-set (only m xs) (x - 1) true ∙ length-only m xs in
     ext_get_or false (set (only m xs) (x - 1) true) (only m (xs ++ x ∷ []))
     (l ∙ sym (length-only m (xs ++ x ∷ [])))
     (λ i b.
     let j : i < m = rw l at b in
-    ⊎_elim
-    (λ (e : i ≡ x - 1).
-    let k : x - 1 < length (only m xs) = rw (length-only m xs) (omega arith) in
-    let s : suc i ≡ x = omega arith in
-    ap (λ z. get_or (set (only m xs) (x - 1) true) z false) e
-    ∙ get_or-set_same (only m xs) (x - 1) true false k
-    ∙ sym (only_at m (xs ++ x ∷ []) i j ∙ mem-same (suc i) x xs s))
-    (λ (e : i ≡ x - 1 → ⊥).
-    let s : suc i ≡ x → ⊥ = λ q. e (omega arith) in
-    get_or-set_other (only m xs) (x - 1) i true false e
-    ∙ only_at m xs i j
-    ∙ sym (only_at m (xs ++ x ∷ []) i j ∙ mem-other (suc i) x xs s))
-    (cases_eq i (x - 1)))
+    let new = only_at m (xs ++ x ∷ []) i j ∙ mem-push (suc i) x xs in
+    elim (cases_eq i (x - 1)) [
+      | inl e ↦
+          let set_here = get_or-set_same (only m xs) (x - 1) true false (omega (arith, length-only m xs)) in
+          let s : suc i ≡ x = omega arith in
+          grind (arith, nat_tests)
+      | inr e ↦
+          let set_there = get_or-set_other (only m xs) (x - 1) i true false e ∙ only_at m xs i j in
+          let s : suc i ≡ x → ⊥ = λ q. e (omega arith) in
+          grind (arith, nat_tests)
+    ])
 
 pub agree-is : (c d : List Bool) → agree c d ≡ true → c ≡ d
 agree-is [] [] e = refl
-agree-is [] (y ∷ ys) e = let z : ◌≡◌ {A = ℕ} 0 1 = cc in absurd (omega arith)
-agree-is (x ∷ xs) [] e = let z : ◌≡◌ {A = ℕ} 0 1 = cc in absurd (omega arith)
+agree-is [] (y ∷ ys) e = cc
+agree-is (x ∷ xs) [] e = cc
 agree-is (true ∷ xs) (true ∷ ys) e = ap (λ t. true ∷ t) (agree-is xs ys e)
-agree-is (true ∷ xs) (false ∷ ys) e = let z : ◌≡◌ {A = ℕ} 0 1 = cc in absurd (omega arith)
-agree-is (false ∷ xs) (true ∷ ys) e = let z : ◌≡◌ {A = ℕ} 0 1 = cc in absurd (omega arith)
+agree-is (true ∷ xs) (false ∷ ys) e = cc
+agree-is (false ∷ xs) (true ∷ ys) e = cc
 agree-is (false ∷ xs) (false ∷ ys) e = ap (λ t. false ∷ t) (agree-is xs ys e)
 
-pub agree-self : (c : List Bool) → agree c c ≡ true
+agree-self : (c : List Bool) → agree c c ≡ true
 agree-self [] = refl
 agree-self (true ∷ xs) = agree-self xs
 agree-self (false ∷ xs) = agree-self xs
-
--- One flag more of each.
-pub agree-push : (c d : List Bool) (x y : Bool) → length c ≡ length d
-    → agree (c ++ x ∷ []) (d ++ y ∷ []) ≡ cond (cond x y (cond y false true)) (agree c d) false
-agree-push [] [] true true h = refl
-agree-push [] [] true false h = refl
-agree-push [] [] false true h = refl
-agree-push [] [] false false h = refl
-agree-push [] (y ∷ ys) a b h = absurd (omega arith)
-agree-push (x ∷ xs) [] a b h = absurd (omega arith)
-agree-push (true ∷ xs) (true ∷ ys) a b h = agree-push xs ys a b (omega arith)
-agree-push (true ∷ xs) (false ∷ ys) a b h = elim (cond a b (cond b false true)) as (λ v. false ≡ cond v false false) [ true ↦ refl | false ↦ refl ]
-agree-push (false ∷ xs) (true ∷ ys) a b h = elim (cond a b (cond b false true)) as (λ v. false ≡ cond v false false) [ true ↦ refl | false ↦ refl ]
-agree-push (false ∷ xs) (false ∷ ys) a b h = agree-push xs ys a b (omega arith)
-
--- What a list without a fault says of its link at place i.
-pub record Sound (m : ℕ) (xs : List ℕ) (i : ℕ) : Type 0 where
-  pub some : get_or xs i 0 ≡ 0 → ⊥
-  pub within : get_or xs i 0 ≤ m
-  pub first : mem (get_or xs i 0) (take i xs) ≡ false
-  pub next : list_fault m (take (i + 1) xs) (drop (i + 1) xs) ≡ None
-
-pub sound-at : (m : ℕ) (xs : List ℕ) (i : ℕ) → i < length xs → list_fault m (take i xs) (drop i xs) ≡ None → Sound m xs i
-sound-at m xs i h e =
-    ⊎_elim
-    (λ z. let f = fault-zero m xs i h z in let q : ◌≡◌ {A = ℕ} 0 1 = cc in absurd (omega arith))
-    (λ z.
-    ⊎_elim
-    (λ o. let f = fault-over m xs i h z o in let q : ◌≡◌ {A = ℕ} 0 1 = cc in absurd (omega arith))
-    (λ o.
-    ⊎_elim
-    (λ t. let f = fault-twice m xs i h z o t in let q : ◌≡◌ {A = ℕ} 0 1 = cc in absurd (omega arith))
-    (λ t. record { some = z; within = o; first = t; next = fault-next m xs i h z o t ∙ e })
-    (cases_Bool (mem (get_or xs i 0) (take i xs))))
-    (cases_lt m (get_or xs i 0)))
-    (cases_eq (get_or xs i 0) 0)
 
 -- One link of the list more enabled.
 pub lit-more : (m : ℕ) (xs : List ℕ) (i : ℕ) (c d : List Bool) → i < length xs → Sound m xs i → c ≡ only m (take i xs)
@@ -131,86 +73,32 @@ lit-more m xs i c d h s e f =
 -- A fabric enables a link that is not yet in the list.
 pub only-enable : (m : ℕ) (xs : List ℕ) (x : ℕ) → (x ≡ 0 → ⊥) → x ≤ m → mem x xs ≡ false → enable_fault (only m xs) x ≡ None
 only-enable m xs x n h e =
-    let s : suc (x - 1) ≡ x = omega arith in
-    enable-granted (only m xs) x
-    (among_in (only m xs) x n (rw (length-only m xs) h))
-    (only_at m xs (x - 1) (omega arith) ∙ ap (λ y. mem y xs) s ∙ e)
+    let has = among_in (only m xs) x n (omega (arith, length-only m xs)) in
+    let off = carries-only m xs x (omega arith) h ∙ e in
+    grind arith
 
--- What the survey knows after one link more.
-pub agree-more : (c : List Bool) (i : ℕ) (xs : List ℕ) (y : Bool) → i < length c → mem (suc i) xs ≡ y
-    → agree (take (i + 1) c) (only (i + 1) xs)
-    ≡ cond (cond (get_or c i false) y (cond y false true)) (agree (take i c) (only i xs)) false
-agree-more c i xs y h e =
-    ap (λ t. agree t (only (i + 1) xs)) (take_more c i false h)
-    ∙ ap (λ n. agree (take i c ++ get_or c i false ∷ []) (only n xs)) (add-one i)
-    ∙ agree-push (take i c) (only i xs) (get_or c i false) (mem (suc i) xs)
-    (length-take-le i c (omega arith) ∙ sym (length-only i xs))
-    ∙ ap (λ v. cond (cond (get_or c i false) v (cond v false true)) (agree (take i c) (only i xs)) false) e
+-- Whether exactly the listed links carry, link by link.
+module _ (m : ℕ) (xs : List ℕ) (c : List Bool) (size : length c ≡ m) where
+  pub only-each : ((k : ℕ) → 1 ≤ k → k ≤ m → carries c k ≡ mem k xs) → true ≡ agree c (only m xs)
+  only-each each =
+      let e : c ≡ only m xs =
+      ext_get_or false c (only m xs) (size ∙ sym (length-only m xs))
+      (λ i h.
+      let s : i < m = omega arith in
+      let j : i ≡ suc i - 1 = omega arith in
+      ap (λ k. get_or c k false) j ∙ each (suc i) (omega arith) s ∙ sym (only_at m xs i s)) in
+      sym (ap (agree c) (sym e) ∙ agree-self c)
 
-apart : (x y b : Bool) → not (beq x y) ≡ true → cond (cond x y (cond y false true)) b false ≡ false
-apart true true b n = absurd (false≢true n)
-apart true false b n = refl
-apart false true b n = refl
-apart false false b n = absurd (false≢true n)
-
-alike : (x y b : Bool) → not (beq x y) ≡ false → cond (cond x y (cond y false true)) b false ≡ b
-alike true true b n = refl
-alike true false b n = absurd (true≢false n)
-alike false true b n = absurd (true≢false n)
-alike false false b n = refl
-
--- One link more of the survey.
-module _ (c : List Bool) (i : ℕ) (on : Bool) (h : i < length c) (is : on ≡ get_or c (i + 1 - 1) false) where
-  on-is : on ≡ get_or c i false
-  on-is = let e : i + 1 - 1 ≡ i = omega arith in is ∙ ap (λ j. get_or c j false) e
-
-  pub blank-lost : on ≡ true → false ≡ agree (take (i + 1) c) (only (i + 1) [])
-  blank-lost e =
-      sym (agree-more c i [] false h refl
-      ∙ ap (λ v. cond (cond v false true) (agree (take i c) (only i [])) false) (sym on-is ∙ e))
-
-  pub blank-kept : on ≡ false → (b : Bool) → b ≡ agree (take i c) (only i []) → b ≡ agree (take (i + 1) c) (only (i + 1) [])
-  blank-kept e b p =
-      p ∙ sym (agree-more c i [] false h refl
-      ∙ ap (λ v. cond (cond v false true) (agree (take i c) (only i [])) false) (sym on-is ∙ e))
-
-  module _ (xs : List ℕ) (l : Bool) (lists : l ≡ mem (i + 1) xs) where
-    grown : agree (take (i + 1) c) (only (i + 1) xs) ≡ cond (cond on l (cond l false true)) (agree (take i c) (only i xs)) false
-    grown =
-        agree-more c i xs l h (sym (lists ∙ ap (λ n. mem n xs) (add-one i)))
-        ∙ ap (λ v. cond (cond v l (cond l false true)) (agree (take i c) (only i xs)) false) (sym on-is)
-
-    pub exact-kept : not (beq on l) ≡ false → (b : Bool) → b ≡ agree (take i c) (only i xs)
-        → b ≡ agree (take (i + 1) c) (only (i + 1) xs)
-    exact-kept e b p = p ∙ sym (grown ∙ alike on l (agree (take i c) (only i xs)) e)
-
-    pub exact-lost : not (beq on l) ≡ true → false ≡ agree (take (i + 1) c) (only (i + 1) xs)
-    exact-lost n = sym (grown ∙ apart on l (agree (take i c) (only i xs)) n)
+  pub only-but : (k : ℕ) → 1 ≤ k → k ≤ m → (carries c k ≡ mem k xs → ⊥) → false ≡ agree c (only m xs)
+  only-but k some most n = elim (cases_Bool (agree c (only m xs))) [
+    | inl t ↦ absurd (n (ap (λ d. carries d k) (agree-is c (only m xs) t) ∙ carries-only m xs k some most))
+    | inr f ↦ sym f
+  ]
 
 -- When lay is granted.
 module _ (s : Sheet) (c : List Bool) (size : length c ≡ s.m) (fit : unfit s ≡ false) (sound : list_fault s.m [] (starts s) ≡ None) where
-  past : lay_fault s c ≡ cond (agree c (only s.m [])) None (cond (agree c (only s.m (starts s))) None (Some NotBlank))
-  past =
-      cond-true (eqb (length c) s.m) _ _ (eq-eqb (length c) s.m size)
-      ∙ cond-false (unfit s) _ _ fit
-      ∙ ap (λ o. or_else o (cond (agree c (only s.m [])) None (cond (agree c (only s.m (starts s))) None (Some NotBlank)))) sound
-
   pub lay-blank : agree c (only s.m []) ≡ true → lay_fault s c ≡ None
-  lay-blank e = past ∙ cond-true (agree c (only s.m [])) _ _ e
+  lay-blank e = grind (arith, nat_tests)
 
   pub lay-exact : agree c (only s.m []) ≡ false → agree c (only s.m (starts s)) ≡ true → lay_fault s c ≡ None
-  lay-exact e f = past ∙ cond-false (agree c (only s.m [])) _ _ e ∙ cond-true (agree c (only s.m (starts s))) _ _ f
-
--- A list without a fault has no link 0, and neither has what follows its first link.
-opened : (m : ℕ) (seen : List ℕ) (x : ℕ) (xs : List ℕ) → list_fault m seen (x ∷ xs) ≡ None
-    → (cond (eqb x 0) true (ltb m x) ≡ false) × (list_fault m (seen ++ x ∷ []) xs ≡ None)
-opened m seen x xs e =
-    let after : Option PlayerFault = list_fault m (seen ++ x ∷ []) xs in
-    let a = cond-none (cond (eqb x 0) true (ltb m x)) (Refused (LinkOutside x)) (cond (mem x seen) (Some (Refused (CarriesAlready x))) after) e in
-    (a.0, (cond-none (mem x seen) (Refused (CarriesAlready x)) after a.1).1)
-
-pub list-nonzero : (m : ℕ) (seen xs : List ℕ) → list_fault m seen xs ≡ None → (j : ℕ) → j < length xs → get_or xs j 0 ≡ 0 → ⊥
-list-nonzero m seen [] e j h z = omega arith
-list-nonzero m seen (x ∷ xs) e zero h z =
-    false≢true (sym (opened m seen x xs e).0 ∙ ap (λ b. cond b true (ltb m x)) (eq-eqb x 0 z))
-list-nonzero m seen (x ∷ xs) e (suc j) h z = list-nonzero m (seen ++ x ∷ []) xs (opened m seen x xs e).1 j (omega arith) z
+  lay-exact e f = grind (arith, nat_tests)

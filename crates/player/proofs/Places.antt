@@ -1,132 +1,52 @@
--- Whether an item is in a list, by its place; and in an ascending list by one look.
-use Rattle.std.proofs.Common.{◌≡◌, ℕ, zero, suc, ◌+◌, ◌-◌, ◌<◌, ◌≤◌, true, false, cond, eqb, List, [], ◌∷◌, length, get_or, take, sym, refl, ap, ◌∙◌, ⊎_elim, arith}
+-- Whether an item is in a list, by its place and by the library's searches.
+use Rattle.std.proofs.Common.{◌≡◌, ℕ, ◌<◌, ◌≤◌, true, false, eqb, List, [], ◌∷◌, ◌++◌, ◌||◌, length, get_or, take, Ok, Err, Result, sym, refl, ap, inl, inr, arith}
+use Rattle.std.specs.List.{list_any}
+use Rattle.std.specs.List.Sorted.{IsBinarySearchResult}
+use Rattle.std.specs.Ordering.{nat_cmp}
+use Rattle.std.specs.Result.{MatchResult, is_ok}
+use Rattle.std.proofs.lemmas.List.Recursion.{or_at, or_from_places, or_push}
+use Rattle.std.proofs.lemmas.List.Sorted.{searched}
+use Rattle.std.proofs.lemmas.Bool.Decides.{nat_tests}
 use Rattle.std.proofs.lemmas.List.{length-take-le, get_or-take}
-use Rattle.std.proofs.lemmas.Bool.{eq-eqb, ne_eqb, cases_eq, cases_lt, true≢false}
-use Rattle.player.specs.Start.{mem, Ascends, Parts}
+use Rattle.std.proofs.lemmas.Bool.{eq-eqb, ne_eqb, cases_eq, cases_lt}
+use Rattle.player.specs.Start.{mem, Ascends}
 
-pub mem-place : (x : ℕ) (xs : List ℕ) (j : ℕ) → j < length xs → x ≡ get_or xs j 0 → mem x xs ≡ true
-mem-place x [] j h e = absurd (omega arith)
-mem-place x (y ∷ ys) zero h e = ap (λ b. cond b true (mem x ys)) (eq-eqb x y e)
-mem-place x (y ∷ ys) (suc j) h e =
-    ap (λ b. cond (eqb x y) true b) (mem-place x ys j (omega arith) e)
-    ∙ elim (eqb x y) as (λ b. cond b true true ≡ true) [ true ↦ refl | false ↦ refl ]
+mem-step : (x y : ℕ) (ys : List ℕ) → mem x (y ∷ ys) ≡ (eqb x y || mem x ys)
+mem-step x y ys = grind (arith, nat_tests)
 
-pub mem-nowhere : (x : ℕ) (xs : List ℕ) → ((j : ℕ) → j < length xs → x ≡ get_or xs j 0 → ⊥) → mem x xs ≡ false
-mem-nowhere x [] n = refl
-mem-nowhere x (y ∷ ys) n =
-    ap (λ b. cond b true (mem x ys)) (ne_eqb x y (n 0 (omega arith)))
-    ∙ mem-nowhere x ys (λ j h. n (suc j) (omega arith))
+mem-place : (x : ℕ) (xs : List ℕ) (j : ℕ) → j < length xs → x ≡ get_or xs j 0 → mem x xs ≡ true
+mem-place x xs j h e = or_at (mem x) (eqb x) refl (mem-step x) xs j 0 h (eq-eqb x (get_or xs j 0) e)
 
--- In an ascending list one look tells.
-module _ (xs : List ℕ) (at x : ℕ) (p : Parts xs at x) where
-  pub parts-hit : at < length xs → get_or xs at 0 ≡ x → mem x xs ≡ true
-  parts-hit h e = mem-place x xs at h (sym e)
+mem-nowhere : (x : ℕ) (xs : List ℕ) → ((j : ℕ) → j < length xs → x ≡ get_or xs j 0 → ⊥) → mem x xs ≡ false
+mem-nowhere x xs n = or_from_places (mem x) (eqb x) refl (mem-step x) xs 0 (λ j h. ne_eqb x (get_or xs j 0) (n j h))
 
-  pub parts-miss : (at < length xs → get_or xs at 0 ≡ x → ⊥) → mem x xs ≡ false
-  parts-miss n = mem-nowhere x xs elsewhere
-    where
-      elsewhere : (j : ℕ) → j < length xs → x ≡ get_or xs j 0 → ⊥
-      elsewhere j h e =
-          ⊎_elim
-          (λ (l : j < at). let u = p.under j l h in omega arith)
-          (λ (g : at ≤ j).
-          ⊎_elim
-          (λ (s : at ≡ j). n (omega arith) (ap (λ i. get_or xs i 0) s ∙ sym e))
-          (λ (d : at ≡ j → ⊥).
-          let b : at < j = omega arith in
-          let a = p.order at j b h in
-          let o = p.over at (omega arith) (omega arith) in
-          omega arith)
-          (cases_eq at j))
-          (cases_lt j at)
+pub mem-push : (y x : ℕ) (xs : List ℕ) → mem y (xs ++ x ∷ []) ≡ (mem y xs || eqb y x)
+mem-push y x xs = or_push (mem y) (eqb y) refl (mem-step y) xs x
 
-  -- One number further.
-  pub parts-after-hit : at < length xs → get_or xs at 0 ≡ x → Parts xs (at + 1) (x + 1)
-  parts-after-hit h e = record {
-    order = p.order;
-    under = λ j l g.
-        ⊎_elim
-        (λ (b : j < at). let u = p.under j b g in omega arith)
-        (λ (b : at ≤ j). let s : j ≡ at = omega arith in let v : get_or xs j 0 ≡ x = ap (λ i. get_or xs i 0) s ∙ e in omega arith)
-        (cases_lt j at);
-    over = λ j l g. let b : at < j = omega arith in let a = p.order at j b g in omega arith;
-  }
+-- What a search in an ascending list tells.
+pub mem-searched : (xs : List ℕ) (x : ℕ) → Ascends xs → (r : Result ℕ ℕ) → IsBinarySearchResult (λ y. nat_cmp y x) xs r → is_ok r ≡ mem x xs
+mem-searched xs x a r s = met r (searched xs x r s rising)
+  where
+    rising : (i j : ℕ) → i ≤ j → j < length xs → get_or xs i 0 ≤ get_or xs j 0
+    rising i j l h = elim (cases_eq i j) [
+      | inl e ↦ let q = ap (λ k. get_or xs k 0) e in omega arith
+      | inr n ↦ omega (arith, a i j (omega arith) h)
+    ]
 
-  pub parts-after-miss : mem x xs ≡ false → Parts xs at (x + 1)
-  parts-after-miss n = record {
-    order = p.order;
-    under = λ j l g. let u = p.under j l g in omega arith;
-    over = λ j l g.
-        let o = p.over j l g in
-        ⊎_elim
-        (λ (e : x ≡ get_or xs j 0). absurd (true≢false (sym (mem-place x xs j g e) ∙ n)))
-        (λ (e : x ≡ get_or xs j 0 → ⊥). omega arith)
-        (cases_eq x (get_or xs j 0));
-  }
+    met : (r : Result ℕ ℕ)
+        → MatchResult r (λ i. (i < length xs) × (get_or xs i 0 ≡ x))
+        (λ i. (i ≤ length xs) × ((k : ℕ) → k < i → get_or xs k 0 < x) × ((k : ℕ) → i ≤ k → k < length xs → x < get_or xs k 0))
+        → is_ok r ≡ mem x xs
+    met (Ok i) m = sym (mem-place x xs i m.0 (sym m.1))
+    met (Err i) m = sym (mem-nowhere x xs (λ k h e. elim (cases_lt k i) [ inl l ↦ omega (arith, m.1 k l) | inr g ↦ omega (arith, m.2 k g h) ]))
 
--- Before link 1 nothing is below.
-pub parts-start : (xs : List ℕ) → Ascends xs → ((j : ℕ) → j < length xs → get_or xs j 0 ≡ 0 → ⊥) → Parts xs 0 1
-parts-start xs a n = record {
-  order = a;
-  under = λ j l g. absurd (omega arith);
-  over = λ j l g. let z = n j g in ⊎_elim (λ (e : get_or xs j 0 ≡ 0). absurd (z e)) (λ (e : get_or xs j 0 ≡ 0 → ⊥). omega arith) (cases_eq (get_or xs j 0) 0);
-}
+-- An item of an ascending list is not among those before it.
+pub mem_new : (xs : List ℕ) (i : ℕ) → Ascends xs → i < length xs → mem (get_or xs i 0) (take i xs) ≡ false
+mem_new xs i a h =
+    mem-nowhere (get_or xs i 0) (take i xs) (λ j l e.
+    let b : j < i = omega (arith, length-take-le i xs (omega arith)) in omega (arith, get_or-take i xs j 0 b, a j i b h))
 
--- The items before place i are those below the item there.
-pub parts-front : (xs : List ℕ) (i : ℕ) → Ascends xs → i < length xs → Parts (take i xs) i (get_or xs i 0)
-parts-front xs i a h =
-    let l : length (take i xs) ≡ i = length-take-le i xs (omega arith) in
-    record {
-      order = λ j k b g.
-          let x = get_or-take i xs j 0 (omega arith) in let y = get_or-take i xs k 0 (omega arith) in
-          let o = a j k b (omega arith) in omega arith;
-      under = λ j b g. let x = get_or-take i xs j 0 b in let o = a j i b h in omega arith;
-      over = λ j b g. absurd (omega arith);
-    }
-
-pub parts-look : (xs : List ℕ) (at x : ℕ) → Parts xs at x → at < length xs → eqb (get_or xs at 0) x ≡ mem x xs
-parts-look xs at x p h =
-    ⊎_elim
-    (λ (e : get_or xs at 0 ≡ x). eq-eqb (get_or xs at 0) x e ∙ sym (parts-hit xs at x p h e))
-    (λ (e : get_or xs at 0 ≡ x → ⊥). ne_eqb (get_or xs at 0) x e ∙ sym (parts-miss xs at x p (λ _. e)))
-    (cases_eq (get_or xs at 0) x)
-
-pub parts-past : (xs : List ℕ) (at x : ℕ) → Parts xs at x → length xs ≤ at → mem x xs ≡ false
-parts-past xs at x p h = parts-miss xs at x p (λ l e. omega arith)
-
--- After link x, with one item more below where x was in the list.
-pub parts-step : (xs : List ℕ) (at x : ℕ) → Parts xs at x → mem x xs ≡ true → Parts xs (at + 1) (x + 1)
-parts-step xs at x p m =
-    ⊎_elim
-    (λ (h : at < length xs).
-    ⊎_elim
-    (λ (e : get_or xs at 0 ≡ x). parts-after-hit xs at x p h e)
-    (λ (e : get_or xs at 0 ≡ x → ⊥). absurd (true≢false (sym m ∙ parts-miss xs at x p (λ _. e))))
-    (cases_eq (get_or xs at 0) x))
-    (λ (h : length xs ≤ at). absurd (true≢false (sym m ∙ parts-past xs at x p h)))
-    (cases_lt at (length xs))
-
--- Adjacent items in order, so far and one further.
-pub record Rising (xs : List ℕ) (n : ℕ) : Type 0 where
-  pub pairs : (i j : ℕ) → i < j → j < n → get_or xs i 0 < get_or xs j 0
-
-pub rising-one : (xs : List ℕ) → Rising xs 1
-rising-one xs = record { pairs = λ i j l h. absurd (omega arith) }
-
-pub rising-more : (xs : List ℕ) (n : ℕ) → 1 ≤ n → Rising xs n → get_or xs (n - 1) 0 < get_or xs n 0 → Rising xs (n + 1)
-rising-more xs n b r s = record {
-  pairs = λ i j l h.
-      ⊎_elim
-      (λ (k : j < n). r.pairs i j l k)
-      (λ (k : n ≤ j).
-      let e : j ≡ n = omega arith in
-      let v : get_or xs j 0 ≡ get_or xs n 0 = ap (λ z. get_or xs z 0) e in
-      ⊎_elim
-      (λ (d : i ≡ n - 1). let w : get_or xs i 0 ≡ get_or xs (n - 1) 0 = ap (λ z. get_or xs z 0) d in omega arith)
-      (λ (d : i ≡ n - 1 → ⊥).
-      let f : i < n - 1 = omega arith in
-      let g : n - 1 < n = omega arith in
-      let q : get_or xs i 0 < get_or xs (n - 1) 0 = r.pairs i (n - 1) f g in omega arith)
-      (cases_eq i (n - 1)))
-      (cases_lt j n);
-}
+-- The library's search for an item.
+pub any_mem : (x : ℕ) (xs : List ℕ) → list_any (λ y. eqb y x) xs ≡ mem x xs
+any_mem x [] = refl
+any_mem x (y ∷ ys) = let i = any_mem x ys in grind (arith, nat_tests)

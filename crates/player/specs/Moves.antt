@@ -34,6 +34,16 @@ dimmed c l = cond (l == 0) c (slice_set c (l - 1) false)
 abbrev pub lit : List Bool → ℕ → List Bool
 lit c l = cond (l == 0) c (slice_set c (l - 1) true)
 
+-- What answers a call that lets link l leave, before link e comes, and one that lets link l come, with the carrying links c before
+-- and d after.
+abbrev pub Leaves : {U : Type 0} → ℕ → ℕ → List Bool → Result U PlayerFault → List Bool → Type 0
+Leaves l e c (Ok u) d = (pair_fault c l e ≡ None) × (d ≡ dimmed c l)
+Leaves l e c (Err f) d = (pair_fault c l e ≡ Some f) × (d ≡ c)
+
+abbrev pub Comes : {U : Type 0} → ℕ → List Bool → Result U PlayerFault → List Bool → Type 0
+Comes l c (Ok u) d = (come_fault c l ≡ None) × (d ≡ lit c l)
+Comes l c (Err f) d = (come_fault c l ≡ Some f) × (d ≡ c)
+
 -- Why forward is refused, if it is: another plan, no entry left, or the fabric refuses a link of the entry.
 abbrev pub forward_fault : Rest → Sheet → List Bool → Option PlayerFault
 forward_fault p s c =
@@ -45,6 +55,26 @@ abbrev pub backward_fault : Rest → Sheet → List Bool → Option PlayerFault
 backward_fault p s c =
     cond (unlike p s) (Some OtherPlan)
     (cond (p.t == 0) (Some (NoEntry p.t)) (pair_fault c (entry s (p.t - 1)).1 (entry s (p.t - 1)).0))
+
+-- Why a player at rest finds no entry that leads on, or none that leads back, if so.
+abbrev pub next_fault : Rest → Sheet → Option PlayerFault
+next_fault p s = cond (unlike p s) (Some OtherPlan) (cond (nat_lt p.t p.k) None (Some (NoEntry p.t)))
+
+abbrev pub last_fault : Rest → Sheet → Option PlayerFault
+last_fault p s = cond (unlike p s) (Some OtherPlan) (cond (p.t == 0) (Some (NoEntry p.t)) None)
+
+-- An entry taken back.
+abbrev pub turned : ℕ × ℕ → ℕ × ℕ
+turned e = (e.1, e.0)
+
+-- The state between to which a player at rest comes by an entry that leads to moment u.
+abbrev pub bound : Rest → ℕ → ℕ × ℕ → Way
+bound p u e = record { n = p.n; m = p.m; k = p.k; t = p.t; to = u; leaving = e.0; coming = e.1 }
+
+-- What setting out by an entry to moment u answers, with the carrying links c before and d after.
+abbrev pub SetsOut : Rest → ℕ → ℕ × ℕ → List Bool → Result Between (Kept Steady) → List Bool → Type 0
+SetsOut p u e c (Ok b) d = (pair_fault c e.0 e.1 ≡ None) × (way b ≡ bound p u e) × (d ≡ dimmed c b.leaving)
+SetsOut p u e c (Err k) d = (pair_fault c e.0 e.1 ≡ Some k.fault) × (rest k.player ≡ p) × (d ≡ c)
 
 -- The states between to which a steady player comes by forward and by backward.
 abbrev pub onward : Rest → Sheet → Way
@@ -64,6 +94,11 @@ Forwards p s c (Err k) d = (forward_fault p s c ≡ Some k.fault) × (rest k.pla
 abbrev pub Backwards : Rest → Sheet → List Bool → Result Between (Kept Steady) → List Bool → Type 0
 Backwards p s c (Ok b) d = (backward_fault p s c ≡ None) × (way b ≡ back p s) × (d ≡ dimmed c b.leaving)
 Backwards p s c (Err k) d = (backward_fault p s c ≡ Some k.fault) × (rest k.player ≡ p) × (d ≡ c)
+
+-- What settling at moment t by link l answers, with the carrying links c before and d after.
+abbrev pub Settles : Way → ℕ → ℕ → List Bool → Result Steady (Kept Between) → List Bool → Type 0
+Settles b t l c (Ok p) d = (come_fault c l ≡ None) × (rest p ≡ record { n = b.n; m = b.m; k = b.k; t = t }) × (d ≡ lit c l)
+Settles b t l c (Err k) d = (come_fault c l ≡ Some k.fault) × (way k.player ≡ b) × (d ≡ c)
 
 -- The steady states to which a player between comes by join and by cancel.
 abbrev pub arrived : Way → Rest

@@ -12,7 +12,7 @@ pub record Rest : Type 0 where
   pub t : ℕ
 
 abbrev pub rest : Steady → Rest
-rest p = record { n = p.n; m = p.m; k = p.k; t = p.t }
+rest p = record { n = p.counts.n; m = p.counts.m; k = p.counts.k; t = p.t }
 
 -- Those of a player between: on its way from moment t to moment `to`.
 pub record Way : Type 0 where
@@ -25,7 +25,7 @@ pub record Way : Type 0 where
   pub coming : ℕ
 
 abbrev pub way : Between → Way
-way b = record { n = b.n; m = b.m; k = b.k; t = b.t; to = b.to; leaving = b.leaving; coming = b.coming }
+way b = record { n = b.counts.n; m = b.counts.m; k = b.counts.k; t = b.t; to = b.to; leaving = b.leaving; coming = b.coming }
 
 -- Whether a plan cannot be the one that a player was laid from.
 abbrev pub unlike : Rest → Sheet → Bool

@@ -1,51 +1,27 @@
 //! Laying a plan on a fabric.
 
-ghost use Rattle.std.specs.Prelude.{◌≡◌, true, [], length, None, OnErr};
+ghost use Rattle.std.specs.Prelude.{◌≡◌, [], length, None, OnErr};
 ghost use Rattle.player.specs.Plan.{sheet};
-ghost use Rattle.player.specs.Start.{list_fault, Ascends};
+ghost use Rattle.player.specs.Start.{list_fault};
 ghost use Rattle.player.specs.Lay.{only, agree, Lays};
 
-use crate::plan::{Plan, plan_unfit};
-use crate::start::{ascends, list_fault, listed_at};
+use crate::plan::Plan;
+use crate::start::StartList;
 use crate::states::Steady;
 use fabrics::Fabric;
 use faults::PlayerFault;
 
-/// What a fabric carries, beside a start list: nothing, exactly the list.
-#[derive(Drop)]
-struct Standing {
-    blank: bool,
-    exact: bool,
-}
-
-/// Looks at every link in number order. In an ascending start list `at` goes along.
-fn survey<F: Fabric>(fabric: &F, m: u32, start: &[u32], ascending: bool) -> Standing
-    requires size { length (F.Fabric.carrying fabric.now) ≡ m }
-    requires sound { list_fault m [] start.now ≡ None }
-    requires order { ascending ≡ true → Ascends start.now }
-    ensures { (result.blank ≡ agree (F.Fabric.carrying fabric.now) (only m [])) × (result.exact ≡ agree (F.Fabric.carrying fabric.now) (only m start.now)) }
+/// Whether exactly the listed links carry.
+fn carries_only<F: Fabric>(fabric: &F, m: u32, list: &StartList) -> bool
+    requires { length (F.Fabric.carrying fabric.now) ≡ m }
+    ensures { result ≡ agree (F.Fabric.carrying fabric.now) (only m list.now.links.now) }
 {
-    let mut blank = true;
-    let mut exact = true;
-    let mut at: usize = 0;
-    for i in 0..m {
-        let wanted = listed_at(start, ascending, at, i + 1);
-        if wanted {
-            at += 1;
-        }
-        match fabric.look(i + 1) {
-            Ok(on) => {
-                if on {
-                    blank = false;
-                }
-                if on != wanted {
-                    exact = false;
-                }
-            }
-            Err(_) => unreachable(),
+    for link in 1..=m {
+        if fabric.look(link) != Ok(list.lists(link)) {
+            return false;
         }
     }
-    Standing { blank, exact }
+    true
 }
 
 /// Enables a list of links in order, in a fabric that carries none.
@@ -55,11 +31,8 @@ fn light<F: Fabric>(fabric: &mut F, m: u32, start: &[u32])
     ensures carrying { F.Fabric.carrying fabric.new ≡ only m start.now }
     ensures same { F.Fabric.shape fabric.new ≡ F.Fabric.shape fabric.old }
 {
-    for i in 0..start.len() {
-        match fabric.enable(start[i]) {
-            Ok(()) => {}
-            Err(_) => unreachable(),
-        }
+    for link in start {
+        fabric.enable(*link).unwrap();
     }
 }
 
@@ -73,24 +46,16 @@ pub fn lay<F: Fabric>(plan: &Plan, fabric: &mut F) -> Result<Steady, PlayerFault
     if fabric.size() != plan.m {
         return Err(PlayerFault::OtherSize);
     }
-    if plan_unfit(plan) {
-        return Err(PlayerFault::OtherPlan);
-    }
-    let start = &plan.start[0..(plan.n - 1) as usize];
-    let ascending = ascends(start);
-    if let Some(fault) = list_fault(plan.m, start, ascending) {
-        return Err(fault);
-    }
-    let found = survey(fabric, plan.m, start, ascending);
-    if found.blank {
-        light(fabric, plan.m, start);
-    } else if !found.exact {
+    plan.check()?;
+    let start = StartList::new(&plan.start[..(plan.n - 1) as usize]);
+    start.check(plan.m)?;
+    if carries_only(fabric, plan.m, &StartList::new(&[])) {
+        light(fabric, plan.m, start.links);
+    } else if !carries_only(fabric, plan.m, &start) {
         return Err(PlayerFault::NotBlank);
     }
     Ok(Steady {
-        n: plan.n,
-        m: plan.m,
-        k: plan.k,
+        counts: plan.counts(),
         t: 0,
     })
 }

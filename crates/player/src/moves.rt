@@ -1,85 +1,111 @@
 //! The moves of a laid player.
 
-ghost use Rattle.std.specs.Prelude.{◌≡◌, Some, None, MatchResult, OnErr};
-ghost use Rattle.player.specs.Plan.{sheet};
+ghost use Rattle.std.specs.Prelude.{◌≡◌, ◌-◌, ◌≤◌, Some, None, OnErr, if◌then◌else◌};
+ghost use Rattle.faults.specs.declared.PlayerFault.TheVariants.{OtherPlan};
+ghost use Rattle.player.specs.Plan.{sheet, entry};
 ghost use Rattle.player.specs.States.{rest, way, unlike};
-ghost use Rattle.player.specs.Moves.{leave_fault, come_fault, pair_fault, dimmed, lit, Forwards, Backwards, Joins, Cancels};
+ghost use Rattle.player.specs.Moves.{Leaves, Comes, next_fault, last_fault, turned, SetsOut, Settles, Forwards, Backwards, Joins, Cancels};
+ghost use Rattle.network.specs.Ends.{unless};
 
-use crate::plan::{Plan, plan_unfit};
+use crate::plan::Plan;
 use crate::states::{Between, Kept, Steady};
 use fabrics::Fabric;
 use faults::{FabricFault, PlayerFault};
 
-/// Why a link that is to leave cannot; 0 is skipped.
-fn leave_fault<F: Fabric>(fabric: &F, link: u32) -> Option<PlayerFault>
-    ensures { result ≡ leave_fault (F.Fabric.carrying fabric.now) link }
-{
-    if link == 0 {
-        return None;
-    }
-    match fabric.look(link) {
-        Ok(true) => None,
-        Ok(false) => Some(PlayerFault::Refused(FabricFault::CarriesNot(link))),
-        Err(fault) => Some(PlayerFault::Refused(fault)),
-    }
-}
-
-/// Why a link that is to come cannot; 0 is skipped.
-fn come_fault<F: Fabric>(fabric: &F, link: u32) -> Option<PlayerFault>
-    ensures { result ≡ come_fault (F.Fabric.carrying fabric.now) link }
-{
-    if link == 0 {
-        return None;
-    }
-    match fabric.look(link) {
-        Ok(true) => Some(PlayerFault::Refused(FabricFault::CarriesAlready(link))),
-        Ok(false) => None,
-        Err(fault) => Some(PlayerFault::Refused(fault)),
-    }
-}
-
-/// Looks at the leaving link and the coming link, and disables the leaving one.
+/// Looks at the leaving link and the coming link, and disables the leaving one; 0 is skipped.
 fn part<F: Fabric>(fabric: &mut F, leaving: u32, coming: u32) -> Result<(), PlayerFault>
-    ensures answer { MatchResult result (λ _. (pair_fault (F.Fabric.carrying fabric.old) leaving coming ≡ None) × (F.Fabric.carrying fabric.new ≡ dimmed (F.Fabric.carrying fabric.old) leaving)) (λ f. pair_fault (F.Fabric.carrying fabric.old) leaving coming ≡ Some f) }
+    ensures answer { Leaves leaving coming (F.Fabric.carrying fabric.old) result (F.Fabric.carrying fabric.new) }
     ensures kept { OnErr result (fabric.new ≡ fabric.old) }
     ensures same { F.Fabric.shape fabric.new ≡ F.Fabric.shape fabric.old }
 {
-    if let Some(fault) = leave_fault(fabric, leaving) {
-        return Err(fault);
+    if leaving != 0 && !fabric.look(leaving)? {
+        return Err(FabricFault::CarriesNot(leaving).into());
     }
-    if let Some(fault) = come_fault(fabric, coming) {
-        return Err(fault);
+    if coming != 0 && fabric.look(coming)? {
+        return Err(FabricFault::CarriesAlready(coming).into());
     }
     if leaving != 0 {
-        match fabric.disable(leaving) {
-            Ok(()) => {}
-            Err(_) => unreachable(),
-        }
+        fabric.disable(leaving)?;
     }
     Ok(())
 }
 
 /// Enables a link that comes; 0 is skipped.
 fn bring<F: Fabric>(fabric: &mut F, link: u32) -> Result<(), PlayerFault>
-    ensures answer { MatchResult result (λ _. (come_fault (F.Fabric.carrying fabric.old) link ≡ None) × (F.Fabric.carrying fabric.new ≡ lit (F.Fabric.carrying fabric.old) link)) (λ f. come_fault (F.Fabric.carrying fabric.old) link ≡ Some f) }
+    ensures answer { Comes link (F.Fabric.carrying fabric.old) result (F.Fabric.carrying fabric.new) }
     ensures kept { OnErr result (fabric.new ≡ fabric.old) }
     ensures same { F.Fabric.shape fabric.new ≡ F.Fabric.shape fabric.old }
 {
-    if link == 0 {
-        return Ok(());
+    if link != 0 {
+        fabric.enable(link)?;
     }
-    match fabric.enable(link) {
-        Ok(()) => Ok(()),
-        Err(fault) => Err(PlayerFault::Refused(fault)),
-    }
+    Ok(())
 }
 
 impl Steady {
-    /// Whether a plan is not like the one that the player was laid from.
-    fn strange(&self, plan: &Plan) -> bool
-        ensures { result ≡ unlike (rest self.now) (sheet plan.now) }
+    /// Refuses a plan that is not like the one that the player was laid from.
+    fn check(&self, plan: &Plan) -> Result<(), PlayerFault>
+        ensures { result ≡ unless (if unlike (rest self.now) (sheet plan.now) then Some OtherPlan else None) tt }
     {
-        plan_unfit(plan) || plan.n != self.n || plan.m != self.m || plan.k != self.k
+        plan.check()?;
+        if plan.counts() != self.counts {
+            return Err(PlayerFault::OtherPlan);
+        }
+        Ok(())
+    }
+
+    /// The leaving and the coming link of the change after this moment.
+    fn next_entry(&self, plan: &Plan) -> Result<(u32, u32), PlayerFault>
+        ensures { result ≡ unless (next_fault (rest self.now) (sheet plan.now)) (entry (sheet plan.now) self.now.t) }
+    {
+        self.check(plan)?;
+        if self.t >= self.counts.k {
+            return Err(PlayerFault::NoEntry(self.t));
+        }
+        Ok(plan.entries[self.t as usize])
+    }
+
+    /// The leaving and the coming link of the change before this moment, taken back.
+    fn last_entry(&self, plan: &Plan) -> Result<(u32, u32), PlayerFault>
+        ensures { result ≡ unless (last_fault (rest self.now) (sheet plan.now)) (turned (entry (sheet plan.now) (self.now.t - 1))) }
+    {
+        self.check(plan)?;
+        if self.t == 0 {
+            return Err(PlayerFault::NoEntry(0));
+        }
+        let (coming, leaving) = plan.entries[self.t as usize - 1];
+        Ok((leaving, coming))
+    }
+
+    /// Disables the leaving link of an entry, and is between, on the way to a moment.
+    fn set_out<F: Fabric>(
+        self,
+        fabric: &mut F,
+        to: u32,
+        entry: (u32, u32),
+    ) -> Result<Between, Kept<Steady>>
+        requires { to ≤ self.counts.k }
+        ensures answer { SetsOut (rest self) to entry (F.Fabric.carrying fabric.old) result (F.Fabric.carrying fabric.new) }
+        ensures kept { OnErr result (fabric.new ≡ fabric.old) }
+        ensures same { F.Fabric.shape fabric.new ≡ F.Fabric.shape fabric.old }
+    {
+        let (leaving, coming) = entry;
+        match part(fabric, leaving, coming) {
+            Err(fault) => Err(Kept {
+                player: self,
+                fault,
+            }),
+            Ok(()) => {
+                let Steady { counts, t } = self;
+                Ok(Between {
+                    counts,
+                    t,
+                    to,
+                    leaving,
+                    coming,
+                })
+            }
+        }
     }
 
     /// Takes the next entry: disables its leaving link, and is between.
@@ -88,36 +114,14 @@ impl Steady {
         ensures kept { OnErr result (fabric.new ≡ fabric.old) }
         ensures same { F.Fabric.shape fabric.new ≡ F.Fabric.shape fabric.old }
     {
-        if self.strange(plan) {
-            return Err(Kept {
-                player: self,
-                fault: PlayerFault::OtherPlan,
-            });
-        }
-        let t = self.t;
-        if t >= self.k {
-            return Err(Kept {
-                player: self,
-                fault: PlayerFault::NoEntry(t),
-            });
-        }
-        let (leaving, coming) = plan.entries[t as usize];
-        match part(fabric, leaving, coming) {
+        match self.next_entry(plan) {
             Err(fault) => Err(Kept {
                 player: self,
                 fault,
             }),
-            Ok(()) => {
-                let Steady { n, m, k, t } = self;
-                Ok(Between {
-                    n,
-                    m,
-                    k,
-                    t,
-                    to: t + 1,
-                    leaving,
-                    coming,
-                })
+            Ok(entry) => {
+                let to = self.t + 1;
+                self.set_out(fabric, to, entry)
             }
         }
     }
@@ -128,36 +132,14 @@ impl Steady {
         ensures kept { OnErr result (fabric.new ≡ fabric.old) }
         ensures same { F.Fabric.shape fabric.new ≡ F.Fabric.shape fabric.old }
     {
-        if self.strange(plan) {
-            return Err(Kept {
-                player: self,
-                fault: PlayerFault::OtherPlan,
-            });
-        }
-        let t = self.t;
-        if t == 0 {
-            return Err(Kept {
-                player: self,
-                fault: PlayerFault::NoEntry(t),
-            });
-        }
-        let (coming, leaving) = plan.entries[(t - 1) as usize];
-        match part(fabric, leaving, coming) {
+        match self.last_entry(plan) {
             Err(fault) => Err(Kept {
                 player: self,
                 fault,
             }),
-            Ok(()) => {
-                let Steady { n, m, k, t } = self;
-                Ok(Between {
-                    n,
-                    m,
-                    k,
-                    t,
-                    to: t - 1,
-                    leaving,
-                    coming,
-                })
+            Ok(entry) => {
+                let to = self.t - 1;
+                self.set_out(fabric, to, entry)
             }
         }
     }
@@ -167,9 +149,7 @@ impl Steady {
         ensures { result ≡ self.t }
     {
         let Steady {
-            n: _,
-            m: _,
-            k: _,
+            counts: _,
             t: moment,
         } = self;
         moment
@@ -177,30 +157,39 @@ impl Steady {
 }
 
 impl Between {
-    /// Enables the coming link, and is steady at the new moment.
-    pub fn join<F: Fabric>(self, fabric: &mut F) -> Result<Steady, Kept<Between>>
-        ensures answer { Joins (way self) (F.Fabric.carrying fabric.old) result (F.Fabric.carrying fabric.new) }
+    /// Enables a link, and is steady at moment t.
+    fn settle<F: Fabric>(self, fabric: &mut F, t: u32, link: u32) -> Result<Steady, Kept<Between>>
+        requires { t ≤ self.counts.k }
+        ensures answer { Settles (way self) t link (F.Fabric.carrying fabric.old) result (F.Fabric.carrying fabric.new) }
         ensures kept { OnErr result (fabric.new ≡ fabric.old) }
         ensures same { F.Fabric.shape fabric.new ≡ F.Fabric.shape fabric.old }
     {
-        match bring(fabric, self.coming) {
+        match bring(fabric, link) {
             Err(fault) => Err(Kept {
                 player: self,
                 fault,
             }),
             Ok(()) => {
                 let Between {
-                    n,
-                    m,
-                    k,
+                    counts,
                     t: _,
-                    to,
+                    to: _,
                     leaving: _,
                     coming: _,
                 } = self;
-                Ok(Steady { n, m, k, t: to })
+                Ok(Steady { counts, t })
             }
         }
+    }
+
+    /// Enables the coming link, and is steady at the new moment.
+    pub fn join<F: Fabric>(self, fabric: &mut F) -> Result<Steady, Kept<Between>>
+        ensures answer { Joins (way self) (F.Fabric.carrying fabric.old) result (F.Fabric.carrying fabric.new) }
+        ensures kept { OnErr result (fabric.new ≡ fabric.old) }
+        ensures same { F.Fabric.shape fabric.new ≡ F.Fabric.shape fabric.old }
+    {
+        let (t, link) = (self.to, self.coming);
+        self.settle(fabric, t, link)
     }
 
     /// Enables the leaving link again, and is steady at the old moment.
@@ -209,24 +198,8 @@ impl Between {
         ensures kept { OnErr result (fabric.new ≡ fabric.old) }
         ensures same { F.Fabric.shape fabric.new ≡ F.Fabric.shape fabric.old }
     {
-        match bring(fabric, self.leaving) {
-            Err(fault) => Err(Kept {
-                player: self,
-                fault,
-            }),
-            Ok(()) => {
-                let Between {
-                    n,
-                    m,
-                    k,
-                    t,
-                    to: _,
-                    leaving: _,
-                    coming: _,
-                } = self;
-                Ok(Steady { n, m, k, t })
-            }
-        }
+        let (t, link) = (self.t, self.leaving);
+        self.settle(fabric, t, link)
     }
 
     /// Ends the player, leaves the fabric alone, and tells the leaving and the coming link.
@@ -234,9 +207,7 @@ impl Between {
         ensures { result ≡ (self.leaving, self.coming) }
     {
         let Between {
-            n: _,
-            m: _,
-            k: _,
+            counts: _,
             t: _,
             to: _,
             leaving,

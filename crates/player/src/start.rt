@@ -1,58 +1,53 @@
-//! Reading a plan's start list. In an ascending one, as drawn plans have it, no link is searched for.
+//! A start list. In an ascending one, as drawn plans have it, a link is found fast, and none is listed twice.
 
 ghost use Rattle.std.specs.Prelude.{◌≡◌, true, []};
-ghost use Rattle.player.specs.Start.{mem, list_fault, Ascends, Parts};
+ghost use Rattle.player.specs.Start.{mem, list_fault, Ascends};
+ghost use Rattle.network.specs.Ends.{unless};
 
 use faults::{FabricFault, PlayerFault};
 
-/// Whether x is in the list.
-pub(crate) fn listed(xs: &[u32], x: u32) -> bool
-    ensures { result ≡ mem x xs.now }
-{
-    for y in xs {
-        if x == *y {
-            return true;
-        }
-    }
-    false
+/// A list of links, which is only marked as ascending if it ascends.
+#[derive(Clone, Copy)]
+pub(crate) struct StartList<'s> {
+    pub links: &'s [u32],
+    ascending: bool,
+    ghost order: { ascending ≡ true → Ascends links.now },
 }
 
-/// Whether each item of the list is larger than the one before.
-pub(crate) fn ascends(xs: &[u32]) -> bool
-    ensures { result ≡ true → Ascends xs.now }
-{
-    for i in 1..xs.len() {
-        if xs[i - 1] >= xs[i] {
-            return false;
+impl<'s> StartList<'s> {
+    /// Takes a list, and marks whether it ascends.
+    pub fn new(links: &'s [u32]) -> StartList<'s>
+        ensures { result.links.now ≡ links.now }
+    {
+        StartList {
+            links,
+            ascending: links.is_sorted_by(|x, y| x < y),
         }
     }
-    true
-}
 
-/// Whether x is in the list. Where the list ascends, and `at` of its items are below x, one look tells.
-pub(crate) fn listed_at(xs: &[u32], ascending: bool, at: usize, x: u32) -> bool
-    requires { ascending ≡ true → Parts xs.now at x }
-    ensures { result ≡ mem x xs.now }
-{
-    if !ascending {
-        return listed(xs, x);
+    /// Whether a link is in the list.
+    pub fn lists(&self, link: u32) -> bool
+        ensures { result ≡ mem link self.now.links.now }
+    {
+        if self.ascending {
+            self.links.binary_search(&link).is_ok()
+        } else {
+            self.links.contains(&link)
+        }
     }
-    at < xs.len() && xs[at] == x
-}
 
-/// The first fault of a list of links to enable in a blank fabric of m links.
-pub(crate) fn list_fault(m: u32, xs: &[u32], ascending: bool) -> Option<PlayerFault>
-    requires { ascending ≡ true → Ascends xs.now }
-    ensures { result ≡ list_fault m [] xs.now }
-{
-    for i in 0..xs.len() {
-        let x = xs[i];
-        if x == 0 || x > m {
-            return Some(PlayerFault::Refused(FabricFault::LinkOutside(x)));
+    /// Refuses the list at the first link that a blank fabric of m links would not enable.
+    pub fn check(&self, m: u32) -> Result<(), PlayerFault>
+        ensures { result ≡ unless (list_fault m [] self.now.links.now) tt }
+    {
+        for (i, link) in self.links.iter().enumerate() {
+            if *link == 0 || *link > m {
+                return Err(FabricFault::LinkOutside(*link).into());
+            }
+            if !self.ascending && self.links[..i].contains(link) {
+                return Err(FabricFault::CarriesAlready(*link).into());
+            }
         }
-        if listed_at(&xs[0..i], ascending, i, x) {
-            return Some(PlayerFault::Refused(FabricFault::CarriesAlready(x)));
-        }
+        Ok(())
     }
-    None
 }

@@ -2,29 +2,26 @@
 
 ghost use Rattle.std.specs.Prelude.{◌≤◌};
 
+use crate::plan::Counts;
 use faults::PlayerFault;
 
-/// A player at rest after the first t changes of a plan of n nodes, m links and k changes.
+/// A player at rest after the first t changes of a plan with these counts.
 pub struct Steady {
-    pub(super) n: u32,
-    pub(super) m: u32,
-    pub(super) k: u32,
+    pub(super) counts: Counts,
     pub(super) t: u32,
-    ghost within: { t ≤ k },
+    ghost within: { t ≤ counts.k },
 }
 
 /// A player on its way from moment t to the next or the one before, `to`: the leaving link is off and the coming one not
 /// yet on.
 pub struct Between {
-    pub(super) n: u32,
-    pub(super) m: u32,
-    pub(super) k: u32,
+    pub(super) counts: Counts,
     pub(super) t: u32,
     pub(super) to: u32,
     pub(super) leaving: u32,
     pub(super) coming: u32,
-    ghost within: { t ≤ k },
-    ghost ahead: { to ≤ k },
+    ghost within: { t ≤ counts.k },
+    ghost ahead: { to ≤ counts.k },
 }
 
 /// A player handed back by a refused call, with the fault.

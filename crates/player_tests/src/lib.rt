@@ -23,22 +23,9 @@ mod tests {
         }
     }
 
-    // The fault that a player's call reports.
-    fn told(code: u32, place: u32) -> Fault {
-        Fault {
-            layer: Layer::Player,
-            code,
-            place,
-        }
-    }
-
-    // The fault that a fabric reports.
-    fn fabric_told(code: u32, place: u32) -> Fault {
-        Fault {
-            layer: Layer::Fabric,
-            code,
-            place,
-        }
+    // A fault as it is reported.
+    fn told(layer: Layer, code: u32, place: u32) -> Fault {
+        Fault { layer, code, place }
     }
 
     // The fabric's own fault behind a player's, or the player's.
@@ -49,53 +36,32 @@ mod tests {
         }
     }
 
-    fn on(map: &LinkMap, link: u32) -> bool {
-        match map.look(link) {
-            Ok(carries) => carries,
-            Err(_) => false,
-        }
-    }
-
     // Which of the links 1 to 5 carry.
     fn carrying(map: &LinkMap) -> [bool; 5] {
-        [on(map, 1), on(map, 2), on(map, 3), on(map, 4), on(map, 5)]
+        [1, 2, 3, 4, 5].map(|link| map.look(link) == Ok(true))
     }
 
-    // Lets a refused steady player go.
-    fn ended(kept: Kept<Steady>) -> PlayerFault {
+    // Lets the player of a refusal go, and tells the fault.
+    fn ended<P, T: Drop, E: FnOnce(P) -> T>(kept: Kept<P>, end: E) -> PlayerFault
+        requires { E.IsAlwaysCallable end }
+    {
         let Kept { player, fault } = kept;
-        player.finish();
-        fault
-    }
-
-    // Lets a refused player between go.
-    fn dropped(kept: Kept<Between>) -> PlayerFault {
-        let Kept { player, fault } = kept;
-        player.abandon();
+        end(player);
         fault
     }
 
     fn joined(player: Between, map: &mut LinkMap) -> Result<Steady, PlayerFault> {
-        match player.join(map) {
-            Ok(steady) => Ok(steady),
-            Err(kept) => Err(dropped(kept)),
-        }
+        player
+            .join(map)
+            .map_err(|kept| ended(kept, Between::abandon))
     }
 
-    // One change forward.
-    fn made(player: Steady, plan: &Plan, map: &mut LinkMap) -> Result<Steady, PlayerFault> {
-        match player.forward(plan, map) {
-            Ok(between) => joined(between, map),
-            Err(kept) => Err(ended(kept)),
-        }
-    }
-
-    // One change back.
-    fn undone(player: Steady, plan: &Plan, map: &mut LinkMap) -> Result<Steady, PlayerFault> {
-        match player.backward(plan, map) {
-            Ok(between) => joined(between, map),
-            Err(kept) => Err(ended(kept)),
-        }
+    // The second half of a change whose first half, forward or backward, was this.
+    fn changed(
+        departure: Result<Between, Kept<Steady>>,
+        map: &mut LinkMap,
+    ) -> Result<Steady, PlayerFault> {
+        joined(departure.map_err(|kept| ended(kept, Steady::finish))?, map)
     }
 
     // Lays a plan on a link map, plays so many changes forward and then back, and tells the last moment.
@@ -107,10 +73,10 @@ mod tests {
     ) -> Result<u32, PlayerFault> {
         let mut player = lay(plan, map)?;
         for _ in 0..forwards {
-            player = made(player, plan, map)?;
+            player = changed(player.forward(plan, map), map)?;
         }
         for _ in 0..backwards {
-            player = undone(player, plan, map)?;
+            player = changed(player.backward(plan, map), map)?;
         }
         Ok(player.finish())
     }
@@ -121,7 +87,7 @@ mod tests {
         let mut map = LinkMap::blank(5, &mut bytes);
         match played(&plant(), &mut map, forwards, backwards) {
             Ok(t) if t == moment => Ok(carrying(&map)),
-            Ok(t) => Err(told(0, t)),
+            Ok(t) => Err(told(Layer::Player, 0, t)),
             Err(fault) => Err(Fault::from(fault)),
         }
     }
@@ -152,36 +118,42 @@ mod tests {
         let mut bytes = [0u8; 8];
         let mut map = LinkMap::blank(m, &mut bytes);
         match played(plan, &mut map, forwards, backwards) {
-            Ok(t) => (told(0, t), told(0, t)),
+            Ok(t) => (told(Layer::Player, 0, t), told(Layer::Player, 0, t)),
             Err(fault) => (Fault::from(fault), behind(fault)),
         }
     }
 
     #[test]
     fn no_entry_beyond_the_ends(rt: HostRuntime) {
-        assert_eq!(rt; refusal(&plant(), 5, 6, 0).0, told(32, 5));
-        assert_eq!(rt; refusal(&plant(), 5, 3, 4).0, told(32, 0));
+        assert_eq!(rt; refusal(&plant(), 5, 6, 0).0, told(Layer::Player, 32, 5));
+        assert_eq!(rt; refusal(&plant(), 5, 3, 4).0, told(Layer::Player, 32, 0));
     }
 
     #[test]
     fn other_sizes_and_short_tables(rt: HostRuntime) {
         let plan = plant();
-        assert_eq!(rt; refusal(&plan, 4, 0, 0).0, told(30, 0));
-        assert_eq!(rt; refusal(&Plan { n: 0, ..plan }, 5, 0, 0).0, told(34, 0));
-        assert_eq!(rt; refusal(&Plan { n: 5, ..plan }, 5, 0, 0).0, told(34, 0));
-        assert_eq!(rt; refusal(&Plan { k: 6, ..plan }, 5, 0, 0).0, told(34, 0));
+        assert_eq!(rt; refusal(&plan, 4, 0, 0).0, told(Layer::Player, 30, 0));
+        assert_eq!(rt;
+            refusal(&Plan { n: 0, ..plan }, 5, 0, 0).0,
+            told(Layer::Player, 34, 0)
+        );
+        assert_eq!(rt;
+            refusal(&Plan { n: 5, ..plan }, 5, 0, 0).0,
+            told(Layer::Player, 34, 0)
+        );
+        assert_eq!(rt;
+            refusal(&Plan { k: 6, ..plan }, 5, 0, 0).0,
+            told(Layer::Player, 34, 0)
+        );
     }
 
     // Lays the plant's plan on a map that carries one link, and tells the fault and what carries then.
     fn laid_over(link: u32) -> Result<(Fault, [bool; 5]), Fault> {
         let mut bytes = [0u8; 5];
         let mut map = LinkMap::blank(5, &mut bytes);
-        match map.enable(link) {
-            Ok(()) => {}
-            Err(fault) => return Err(Fault::from(fault)),
-        }
+        map.enable(link)?;
         match lay(&plant(), &mut map) {
-            Ok(player) => Err(told(0, player.finish())),
+            Ok(player) => Err(told(Layer::Player, 0, player.finish())),
             Err(fault) => Ok((Fault::from(fault), carrying(&map))),
         }
     }
@@ -189,7 +161,7 @@ mod tests {
     #[test]
     fn neither_blank_nor_the_start_list(rt: HostRuntime) -> Result<(), Fail> {
         let (fault, then) = laid_over(2)?;
-        assert_eq!(rt; fault, told(31, 0));
+        assert_eq!(rt; fault, told(Layer::Player, 31, 0));
         assert_eq!(rt; then, [false, true, false, false, false]);
         Ok(())
     }
@@ -204,17 +176,12 @@ mod tests {
 
     #[test]
     fn laid_again_only_at_the_start(rt: HostRuntime) -> Result<(), Fail> {
-        match laid_again(2, 2) {
-            Ok(t) => assert_eq!(rt; t, 0),
-            Err(fault) => return Err(Fail::from(Fault::from(fault))),
-        }
-        match laid_again(2, 0) {
-            Ok(_) => Err(Fail::new("granted")),
-            Err(fault) => {
-                assert_eq!(rt; Fault::from(fault), told(31, 0));
-                Ok(())
-            },
-        }
+        assert_eq!(rt; laid_again(2, 2)?, 0);
+        assert_eq!(rt;
+            laid_again(2, 0).map_err(Fault::from),
+            Err(told(Layer::Player, 31, 0))
+        );
+        Ok(())
     }
 
     // A plan that nobody drew: what refuses it, and the fabric's fault behind.
@@ -234,21 +201,24 @@ mod tests {
         let none = [(0, 0)];
         assert_eq!(rt;
             undrawn(&[1, 0, 3], &none, 0),
-            (told(33, 0), fabric_told(40, 0))
+            (told(Layer::Player, 33, 0), told(Layer::Fabric, 40, 0))
         );
         assert_eq!(rt;
             undrawn(&[1, 6, 3], &none, 0),
-            (told(33, 6), fabric_told(40, 6))
+            (told(Layer::Player, 33, 6), told(Layer::Fabric, 40, 6))
         );
         assert_eq!(rt;
             undrawn(&[1, 1, 6], &none, 0),
-            (told(33, 1), fabric_told(41, 1))
+            (told(Layer::Player, 33, 1), told(Layer::Fabric, 41, 1))
         );
         assert_eq!(rt;
             undrawn(&[3, 1, 3], &none, 0),
-            (told(33, 3), fabric_told(41, 3))
+            (told(Layer::Player, 33, 3), told(Layer::Fabric, 41, 3))
         );
-        assert_eq!(rt; undrawn(&[5, 1, 3], &none, 1), (told(0, 1), told(0, 1)));
+        assert_eq!(rt;
+            undrawn(&[5, 1, 3], &none, 1),
+            (told(Layer::Player, 0, 1), told(Layer::Player, 0, 1))
+        );
     }
 
     #[test]
@@ -256,23 +226,23 @@ mod tests {
         let start = [1, 2, 3];
         assert_eq!(rt;
             undrawn(&start, &[(6, 4)], 1),
-            (told(33, 6), fabric_told(40, 6))
+            (told(Layer::Player, 33, 6), told(Layer::Fabric, 40, 6))
         );
         assert_eq!(rt;
             undrawn(&start, &[(5, 4)], 1),
-            (told(33, 5), fabric_told(42, 5))
+            (told(Layer::Player, 33, 5), told(Layer::Fabric, 42, 5))
         );
         assert_eq!(rt;
             undrawn(&start, &[(3, 9)], 1),
-            (told(33, 9), fabric_told(40, 9))
+            (told(Layer::Player, 33, 9), told(Layer::Fabric, 40, 9))
         );
         assert_eq!(rt;
             undrawn(&start, &[(3, 2)], 1),
-            (told(33, 2), fabric_told(41, 2))
+            (told(Layer::Player, 33, 2), told(Layer::Fabric, 41, 2))
         );
         assert_eq!(rt;
             undrawn(&start, &[(3, 3)], 1),
-            (told(33, 3), fabric_told(41, 3))
+            (told(Layer::Player, 33, 3), told(Layer::Fabric, 41, 3))
         );
     }
 
@@ -280,46 +250,37 @@ mod tests {
     fn set_out(map: &mut LinkMap) -> Result<Between, PlayerFault> {
         let plan = plant();
         let laid = lay(&plan, map)?;
-        let player = made(laid, &plan, map)?;
-        match player.forward(&plan, map) {
-            Ok(between) => Ok(between),
-            Err(kept) => Err(ended(kept)),
-        }
+        let player = changed(laid.forward(&plan, map), map)?;
+        player
+            .forward(&plan, map)
+            .map_err(|kept| ended(kept, Steady::finish))
     }
 
     fn cancelled(map: &mut LinkMap) -> Result<u32, PlayerFault> {
-        let between = set_out(map)?;
-        match between.cancel(map) {
-            Ok(steady) => Ok(steady.finish()),
-            Err(kept) => Err(dropped(kept)),
-        }
+        let steady = set_out(map)?
+            .cancel(map)
+            .map_err(|kept| ended(kept, Between::abandon))?;
+        Ok(steady.finish())
     }
 
     #[test]
     fn cancel_comes_back(rt: HostRuntime) -> Result<(), Fail> {
         let mut bytes = [0u8; 5];
         let mut map = LinkMap::blank(5, &mut bytes);
-        match cancelled(&mut map) {
-            Ok(t) => assert_eq!(rt; t, 1),
-            Err(fault) => return Err(Fail::from(Fault::from(fault))),
-        }
+        assert_eq!(rt; cancelled(&mut map)?, 1);
         assert_eq!(rt; carrying(&map), [true, true, false, true, false]);
         Ok(())
     }
 
     fn abandoned(map: &mut LinkMap) -> Result<(u32, u32), PlayerFault> {
-        let between = set_out(map)?;
-        Ok(between.abandon())
+        Ok(set_out(map)?.abandon())
     }
 
     #[test]
     fn abandon_tells_both_links(rt: HostRuntime) -> Result<(), Fail> {
         let mut bytes = [0u8; 5];
         let mut map = LinkMap::blank(5, &mut bytes);
-        match abandoned(&mut map) {
-            Ok(links) => assert_eq!(rt; links, (2, 3)),
-            Err(fault) => return Err(Fail::from(Fault::from(fault))),
-        }
+        assert_eq!(rt; abandoned(&mut map)?, (2, 3));
         assert_eq!(rt; carrying(&map), [true, false, false, true, false]);
         Ok(())
     }
@@ -332,10 +293,10 @@ mod tests {
             Ok(steady) => Err(PlayerFault::NoEntry(steady.finish())),
             Err(kept) => {
                 let Kept { player, fault } = kept;
-                match player.cancel(map) {
-                    Ok(steady) => Ok((behind(fault), steady.finish())),
-                    Err(again) => Err(dropped(again)),
-                }
+                let steady = player
+                    .cancel(map)
+                    .map_err(|again| ended(again, Between::abandon))?;
+                Ok((behind(fault), steady.finish()))
             }
         }
     }
@@ -344,10 +305,7 @@ mod tests {
     fn refused_join_stays_between(rt: HostRuntime) -> Result<(), Fail> {
         let mut bytes = [0u8; 5];
         let mut map = LinkMap::blank(5, &mut bytes);
-        match refused_join(&mut map) {
-            Ok(heard) => assert_eq!(rt; heard, (fabric_told(41, 3), 1)),
-            Err(fault) => return Err(Fail::from(Fault::from(fault))),
-        }
+        assert_eq!(rt; refused_join(&mut map)?, (told(Layer::Fabric, 41, 3), 1));
         assert_eq!(rt; carrying(&map), [true, true, true, true, false]);
         Ok(())
     }
@@ -364,18 +322,13 @@ mod tests {
                 let (leaving, _) = between.abandon();
                 Err(PlayerFault::NoEntry(leaving))
             }
-            Err(kept) => Ok(Fault::from(ended(kept))),
+            Err(kept) => Ok(Fault::from(ended(kept, Steady::finish))),
         }
     }
 
     #[test]
     fn another_plan_is_refused(rt: HostRuntime) -> Result<(), Fail> {
-        match exchanged() {
-            Ok(fault) => {
-                assert_eq!(rt; fault, told(34, 0));
-                Ok(())
-            },
-            Err(fault) => Err(Fail::from(Fault::from(fault))),
-        }
+        assert_eq!(rt; exchanged()?, told(Layer::Player, 34, 0));
+        Ok(())
     }
 }

@@ -10,7 +10,7 @@ use Rattle.player.specs.Start.{mem}
 use Rattle.player.specs.Lay.{only}
 use Rattle.player.specs.Moves.{dimmed, lit}
 use Rattle.promise.specs.Undo.{Exchanged}
-use Rattle.player.proofs.Only.{length-only, only_at}
+use Rattle.player.proofs.Only.{length-only, carries-only}
 
 mem-among : (k : ℕ) (xs : List ℕ) → mem k xs ≡ among k xs
 unfolding among
@@ -19,9 +19,7 @@ mem-among k (x ∷ xs) = let i = mem-among k xs in grind (arith, nat_tests)
 
 -- Whether link k carries, if exactly the listed ones do.
 pub flag : (m : ℕ) (xs : List ℕ) (k : ℕ) → 1 ≤ k → k ≤ m → carries (only m xs) k ≡ among k xs
-flag m xs k h l =
-    let s : suc (k - 1) ≡ k = omega arith in
-    only_at m xs (k - 1) (omega arith) ∙ ap (λ y. mem y xs) s ∙ mem-among k xs
+flag m xs k h l = carries-only m xs k h l ∙ mem-among k xs
 
 past : (m : ℕ) (xs : List ℕ) (k : ℕ) → m < k → carries (only m xs) k ≡ false
 past m xs k h = get_or_past (only m xs) (k - 1) false (omega (arith, length-only m xs))
@@ -69,19 +67,19 @@ flags-exchanged m xs ys kx ky z x = record {
     ]
 
 -- A link's flag after it was set to b; 0 is skipped.
-abbrev put : Bool → List Bool → ℕ → List Bool
+abbrev pub put : Bool → List Bool → ℕ → List Bool
 put b c l = cond (eqb l 0) c (set c (l - 1) b)
 
-length-put : (b : Bool) (c : List Bool) (l : ℕ) → length (put b c l) ≡ length c
+pub length-put : (b : Bool) (c : List Bool) (l : ℕ) → length (put b c l) ≡ length c
 length-put b c l = cond_both (eqb l 0) c (set c (l - 1) b) (λ d. length d ≡ length c) (λ _. refl) (λ _. length-set c (l - 1) b)
 
-put-here : (b : Bool) (c : List Bool) (l i : ℕ) → i < length c → l ≡ suc i → get_or (put b c l) i false ≡ b
+pub put-here : (b : Bool) (c : List Bool) (l i : ℕ) → i < length c → l ≡ suc i → get_or (put b c l) i false ≡ b
 put-here b c l i h e =
     let j : l - 1 ≡ i = omega arith in
     cond_both (eqb l 0) c (set c (l - 1) b) (λ d. get_or d i false ≡ b) (λ q. absurd (grind (arith, nat_tests)))
     (λ _. ap (λ x. get_or (set c x b) i false) j ∙ get_or-set_same c i b false h)
 
-put-there : (b : Bool) (c : List Bool) (l i : ℕ) → (l ≡ suc i → ⊥) → get_or (put b c l) i false ≡ get_or c i false
+pub put-there : (b : Bool) (c : List Bool) (l i : ℕ) → (l ≡ suc i → ⊥) → get_or (put b c l) i false ≡ get_or c i false
 put-there b c l i n =
     cond_both (eqb l 0) c (set c (l - 1) b) (λ d. get_or d i false ≡ get_or c i false) (λ _. refl)
     (λ q. get_or-set_other c (l - 1) i b false (λ e. n (grind (arith, nat_tests))))
@@ -105,16 +103,16 @@ remade c d l e x =
       ]
     ])
 
--- A link taken out and put in again.
-pub unmade : (c : List Bool) (l : ℕ) → ((l ≡ 0 → ⊥) → carries c l ≡ true) → lit (dimmed c l) l ≡ c
-unmade c l on =
-    let s : length (lit (dimmed c l) l) ≡ length c = length-put true (dimmed c l) l ∙ length-put false c l in
-    ext_get_or false (lit (dimmed c l) l) c s (λ i h.
+-- A flag set to a, and set again to what it was.
+pub unput : (a b : Bool) (c : List Bool) (l : ℕ) → ((l ≡ 0 → ⊥) → carries c l ≡ b) → put b (put a c l) l ≡ c
+unput a b c l was =
+    let s : length (put b (put a c l) l) ≡ length c = length-put b (put a c l) l ∙ length-put a c l in
+    ext_get_or false (put b (put a c l) l) c s (λ i h.
     let h1 : i < length c = omega (arith, s) in
-    let h2 : i < length (dimmed c l) = omega (arith, length-put false c l) in
+    let h2 : i < length (put a c l) = omega (arith, length-put a c l) in
     elim (cases_eq l (suc i)) [
-      | inl y ↦ put-here true (dimmed c l) l i h2 y ∙ sym (by_place c l i y ∙ on (λ z. omega arith))
-      | inr y ↦ put-there true (dimmed c l) l i y ∙ put-there false c l i y
+      | inl y ↦ put-here b (put a c l) l i h2 y ∙ sym (by_place c l i y ∙ was (λ z. omega arith))
+      | inr y ↦ put-there b (put a c l) l i y ∙ put-there a c l i y
     ])
 
 -- The exchange back.

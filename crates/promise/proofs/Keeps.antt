@@ -1,7 +1,7 @@
 -- What every call keeps, and so what stands after any calls.
-use Rattle.std.proofs.Common.{◌≡◌, ℕ, ◌+◌, ◌-◌, ◌<◌, ◌≤◌, Bool, true, false, cond, eqb, ltb, List, [], ◌∷◌, length, get_or, Some, None, Ok, Err, Option, Result, sym, refl, ap, ◌∙◌, subst, add-one, arith}
-use Rattle.std.proofs.lemmas.Bool.{ltb-true, eqb-false, both_ways}
-use Rattle.faults.specs.declared.PlayerFault.TheVariants.{OtherPlan, NoEntry}
+use Rattle.std.proofs.Common.{◌≡◌, ℕ, ◌+◌, ◌-◌, ◌<◌, ◌≤◌, Bool, true, false, List, [], ◌∷◌, length, get_or, Some, None, Ok, Err, Option, Result, sym, refl, ap, ◌∙◌, subst, add-one, arith}
+use Rattle.std.proofs.lemmas.Bool.{both_ways}
+use Rattle.std.proofs.lemmas.Bool.Decides.{nat_tests}
 use Rattle.weights.specs.declared.order.Side.{Side}
 use Rattle.network.specs.declared.types.Ends.{Ends}
 use Rattle.network.specs.declared.types.Change.{Change}
@@ -13,16 +13,16 @@ use Rattle.player.specs.declared.states.Steady.{Steady}
 use Rattle.player.specs.declared.states.Between.{Between}
 use Rattle.player.specs.declared.states.Kept.{Kept}
 use Rattle.player.specs.Plan.{Sheet, starts, entry}
-use Rattle.player.specs.States.{Rest, rest, Way, way, unlike}
+use Rattle.player.specs.States.{Rest, rest, Way, way}
 use Rattle.player.specs.Lay.{only, Lays}
-use Rattle.player.specs.Moves.{dimmed, lit, pair_fault, onward, back, arrived, returned, Forwards, Backwards, Joins, Cancels}
+use Rattle.player.specs.Moves.{dimmed, lit, onward, back, arrived, returned, Forwards, Backwards, Joins, Cancels}
 use Rattle.promise.specs.Undo.{Exchanged}
-use Rattle.player.proofs.Nones.{none-some, cond-none, cond-pass}
+use Rattle.player.proofs.Nones.{none-some}
 use Rattle.promise.specs.Installation.{Network, after, DrawnPlan, moment, drawn_from, Player, nobody, steady, between, Installation, new}
 use Rattle.promise.specs.Calls.{Request, One, this, older, opened, drew, laid, played, departed, arrived_at, Step, open-granted, open-refused, draw-granted, draw-refused, lay-granted, lay-refused, forwards, backwards, joins, cancels, abandons, finishes, Runs, none, then, Reached}
 use Rattle.promise.specs.declared.answer.Answer.{Answer}
 use Rattle.promise.specs.Promise.{carried, CarriesLeastTree, Stands, NeverBroken}
-use Rattle.promise.proofs.Flags.{remade, unmade, reversed, fewer}
+use Rattle.promise.proofs.Flags.{remade, unput, reversed, fewer}
 use Rattle.promise.proofs.Accepted.{Accepted, open-accepts, draw-accepts, all-accepted}
 use Rattle.promise.proofs.Trees.{fewer-loops, tree-carried, start-read}
 use Rattle.promise.proofs.Entries.{entry-exchanged, entry-names, entry_read, least-bound}
@@ -167,7 +167,7 @@ module _ {W : Type 0} (side : W → W → Side) (o : Sided side) where
           ∙ remade (tree side d t) (tree side d u) w.leaving w.coming x in
           let z : lit (carrying f) b.leaving ≡ tree side d t =
           ap (λ z. lit z b.leaving) cf ∙ ap (lit (dimmed (tree side d t) w.leaving)) l
-          ∙ unmade (tree side d t) w.leaving (λ n. (x.out n).0) in
+          ∙ unput false true (tree side d t) w.leaving (λ n. (x.out n).0) in
           with-player f (between b t u d) i.laid
           (record {
             own = k.own;
@@ -193,9 +193,8 @@ module _ {W : Type 0} (side : W → W → Side) (o : Sided side) where
           let k = steady-of p t d e in
           let v = s.valid d k.own in
           let g = subst (λ (q : Rest). Forwards q d.sheet (carrying i.fabric) (Ok b) (carrying f)) k.numbers h in
-          let pair = pair_fault (carrying i.fabric) (entry d.sheet t).0 (entry d.sheet t).1 in
-          let x = (cond-none (unlike (at_rest d.sheet t) d.sheet) OtherPlan (cond (ltb t d.sheet.k) pair (Some (NoEntry t))) g.0).1 in
-          let lt : t < d.sheet.k = ltb-true t d.sheet.k (cond-pass (ltb t d.sheet.k) (NoEntry t) pair x).0 in
+          let free = g.0 in
+          let lt : t < d.sheet.k = grind (arith, nat_tests) in
           let n : t < length d.batch = rw v.many at lt in
           departs d p b t (t + 1) f (onward (at_rest d.sheet t) d.sheet) k g.1 refl refl (omega arith) (trees-exchanged d v t n) g.2
       forward-keeps p t d (Err k) f e h =
@@ -209,9 +208,8 @@ module _ {W : Type 0} (side : W → W → Side) (o : Sided side) where
           let k = steady-of p t d e in
           let v = s.valid d k.own in
           let g = subst (λ (q : Rest). Backwards q d.sheet (carrying i.fabric) (Ok b) (carrying f)) k.numbers h in
-          let pair = pair_fault (carrying i.fabric) (entry d.sheet (t - 1)).1 (entry d.sheet (t - 1)).0 in
-          let x = (cond-none (unlike (at_rest d.sheet t) d.sheet) OtherPlan (cond (eqb t 0) (Some (NoEntry t)) pair) g.0).1 in
-          let nz : t ≡ 0 → ⊥ = eqb-false t 0 (cond-none (eqb t 0) (NoEntry t) pair x).0 in
+          let free = g.0 in
+          let nz : t ≡ 0 → ⊥ = λ z. grind (arith, nat_tests) in
           let again : t - 1 + 1 ≡ t = omega arith in
           let n : t - 1 < length d.batch = let w = k.within in omega arith in
           let y = subst (λ (z : ℕ). Exchanged (entry d.sheet (t - 1)).0 (entry d.sheet (t - 1)).1 (tree side d (t - 1)) (tree side d z)) again

@@ -1,7 +1,6 @@
 -- A change, made or taken back, while nothing else touches the fabric.
-use Rattle.std.proofs.Common.{◌≡◌, ℕ, ◌+◌, ◌-◌, Bool, false, cond, eqb, ltb, List, Some, None, Ok, Err, Option, Result, sym, refl, ap, ◌∙◌, subst, inl, inr, arith}
+use Rattle.std.proofs.Common.{◌≡◌, ℕ, ◌+◌, ◌-◌, Bool, false, eqb, List, None, Ok, Err, Result, sym, refl, ap, ◌∙◌, subst, inl, inr, arith}
 use Rattle.std.proofs.lemmas.Bool.{ne_eqb, cond-false}
-use Rattle.faults.specs.declared.PlayerFault.TheVariants.{OtherPlan, NoEntry}
 use Rattle.player.specs.declared.states.Steady.{Steady}
 use Rattle.player.specs.declared.states.Between.{Between}
 use Rattle.player.specs.declared.states.Kept.{Kept}
@@ -9,7 +8,7 @@ use Rattle.player.specs.Plan.{Sheet, entry}
 use Rattle.player.specs.States.{Rest, rest, Way, way, unlike}
 use Rattle.player.specs.Moves.{pair_fault, come_fault, dimmed, lit, forward_fault, backward_fault, onward, back, arrived, returned, Backwards, Joins, Cancels}
 use Rattle.promise.specs.Undo.{Granted, Departs, Exchanged, JoinsExchange, DeparturesPart, CancelsUndo, BackwardsUndo, ChangesUndone}
-use Rattle.player.proofs.Nones.{none-some, cond-none, cond-pass}
+use Rattle.player.proofs.Nones.{none-some}
 use Rattle.promise.proofs.Exchanges.{may-join, may-cancel, may-return, parted, exchanged, cancelled, gone-again}
 
 -- What a granted forward or backward tells.
@@ -20,17 +19,11 @@ record Departed (p : Rest) (c : List Bool) (w : Way) (d : List Bool) : Type 0 wh
 
 forward-free : (p : Rest) (s : Sheet) (c : List Bool) → forward_fault p s c ≡ None
     → (unlike p s ≡ false) × (pair_fault c (entry s p.t).0 (entry s p.t).1 ≡ None)
-forward-free p s c f =
-    let pair : Option _ = pair_fault c (entry s p.t).0 (entry s p.t).1 in
-    let a = cond-none (unlike p s) OtherPlan (cond (ltb p.t p.k) pair (Some (NoEntry p.t))) f in
-    (a.0, (cond-pass (ltb p.t p.k) (NoEntry p.t) pair a.1).1)
+forward-free p s c f = (grind arith, grind arith)
 
 backward-free : (p : Rest) (s : Sheet) (c : List Bool) → backward_fault p s c ≡ None
     → pair_fault c (entry s (p.t - 1)).1 (entry s (p.t - 1)).0 ≡ None
-backward-free p s c f =
-    let pair : Option _ = pair_fault c (entry s (p.t - 1)).1 (entry s (p.t - 1)).0 in
-    let a = cond-none (unlike p s) OtherPlan (cond (eqb p.t 0) (Some (NoEntry p.t)) pair) f in
-    (cond-none (eqb p.t 0) (NoEntry p.t) pair a.1).1
+backward-free p s c f = grind arith
 
 moved : (p : Rest) (c : List Bool) (v w : Way) (d : List Bool) → w ≡ v → pair_fault c v.leaving v.coming ≡ None → returned v ≡ p
     → d ≡ dimmed c w.leaving → Departed p c w d

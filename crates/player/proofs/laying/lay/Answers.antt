@@ -1,49 +1,36 @@
-use Rattle.std.proofs.Common.{◌≡◌, true, false, [], length, None, sym, refl, ap, ◌∙◌}
-use native.Mathlib.Nat.{sub-zero}
-use Rattle.std.proofs.lemmas.Bool.{not-false}
+use Rattle.std.proofs.Common.{◌≡◌, true, false, [], length, None, sym, ap, ◌∙◌}
 use Rattle.player.specs.Plan.{sheet, starts, unfit}
 use Rattle.player.specs.Start.{list_fault}
 use Rattle.player.specs.Lay.{agree, only}
+use Rattle.player.proofs.Nones.{passed, passed-if}
 use Rattle.player.proofs.Only.{agree-is, lay-blank, lay-exact}
 use Rattle.player.proofs.laying.lay.Goals as goal
-use Rattle.player.proofs.laying.lay.Goals.{then-found, else-found+else-not-found}
+use Rattle.player.proofs.laying.lay.Goals.{then-carries_only, else-carries_only+else-not-carries_only}
 
-pub light-requires : goal.light-requires
-light-requires g c =
-    record {
-      blank = agree-is _ _ (sym c.survey-found.ensures.0 ∙ c.if-found.true);
-      sound = sym c.in_default.ensures;
-    }
+pub light-requires-clause-blank : goal.light-requires-clause-blank
+light-requires-clause-blank g c =
+    agree-is _ _ (sym (rw c.new.ensures at c.carries_only.ensures) ∙ c.if-carries_only.true)
 
-pub returns : goal.returns
-returns g c =
+pub returns-clause-answer : goal.returns-clause-answer
+returns-clause-answer g c =
     let s = sheet c.args.plan.now in
     let k = g.F.Fabric.carrying c.args.fabric.now in
     let size : length k ≡ s.m = sym c.size.ensures ∙ c.if-size-plan.false in
-    let fit : unfit s ≡ false = sym c.if-plan_unfit.ensures in
-    let sound : list_fault s.m [] (starts s) ≡ None = sym (rw sub-zero at c.in_default.ensures) in
-    let exact : c.survey-found.result.exact ≡ agree k (only s.m (starts s)) = rw sub-zero at c.survey-found.ensures.1 in
-    elim c.if-found.branch [
-      | then-found w ↦
-          record {
-            answer = (
-              lay-blank s k size fit sound (sym c.survey-found.ensures.0 ∙ w.if-found.true),
-              refl,
-              ap g.F.Fabric.carrying w.fabric-is ∙ (rw sub-zero at w.light.ensures.carrying),
-            );
-            kept = tt;
-            same = ap g.F.Fabric.shape w.fabric-is ∙ w.light.ensures.same;
-          }
-      | else-found+else-not-found w ↦
-          let full : agree k (only s.m (starts s)) ≡ true =
-          sym exact ∙ not-false c.survey-found.result.exact w.if-not-found.false in
-          record {
-            answer = (
-              lay-exact s k size fit sound (sym c.survey-found.ensures.0 ∙ w.if-found.false) full,
-              refl,
-              ap g.F.Fabric.carrying w.fabric-is ∙ agree-is _ _ full,
-            );
-            kept = tt;
-            same = ap g.F.Fabric.shape w.fabric-is;
-          }
+    let fit : unfit s ≡ false = passed-if _ _ _ _ c.in_ok-check.ensures in
+    let list : c.new-start.result.links.now ≡ starts s = c.new-start.ensures in
+    let sound : list_fault s.m [] (starts s) ≡ None = rw list at (passed _ _ _ c.in_ok-check-2.ensures) in
+    let blank : c.carries_only.result ≡ agree k (only s.m []) = rw c.new.ensures at c.carries_only.ensures in
+    elim c.if-carries_only.branch [
+      | then-carries_only w ↦ (
+        lay-blank s k size fit sound (sym blank ∙ w.if-carries_only.true),
+        (cc),
+        ap g.F.Fabric.carrying w.fabric-is ∙ (rw list at w.light.ensures.carrying),
+      )
+      | else-carries_only+else-not-carries_only w ↦
+          let exact : agree k (only s.m (starts s)) ≡ true =
+          sym (rw list at w.carries_only-else-carries_only.ensures) ∙ w.if-not-carries_only.false in (
+            lay-exact s k size fit sound (sym blank ∙ w.if-carries_only.false) exact,
+            (cc),
+            ap g.F.Fabric.carrying w.fabric-is ∙ agree-is _ _ exact,
+          )
     ]
