@@ -21,48 +21,82 @@ impl Random {
             .0
             .wrapping_mul(6364136223846793005)
             .wrapping_add(1442695040888963407);
-        let high = ((self.0 >> 33) & 0x7fff_ffff) as u32;
+        let high = (self.0 >> 33) as u32;
         high.checked_rem(limit).unwrap_or(0)
     }
 }
 
-fn main(rt: HostRuntime) -> anyhow::Result<()> {
-    let mut timed = false;
-    for word in env::args(&rt)?.skip(1) {
-        if word.as_str() == "time" {
-            timed = true;
+/// How large a sample is: n nodes, m links and k changes.
+#[derive(Clone, Copy)]
+struct Size {
+    n: u32,
+    m: u32,
+    k: u32,
+}
+
+/// The sizes that are measured.
+const SIZES: [Size; 3] = [
+    Size {
+        n: 64,
+        m: 256,
+        k: 512,
+    },
+    Size {
+        n: 512,
+        m: 2048,
+        k: 8192,
+    },
+    Size {
+        n: 4096,
+        m: 16384,
+        k: 65536,
+    },
+];
+
+impl Size {
+    /// The ends of link i, counted from 0: a path over all nodes first, then links between any two.
+    fn ends(self, random: &mut Random, i: u32) -> Ends {
+        if i < self.n.saturating_sub(1) {
+            return Ends {
+                a: Node(i.saturating_add(1)),
+                b: Node(i.saturating_add(2)),
+            };
+        }
+        let a = random.below(self.n).saturating_add(1);
+        let b = random.below(self.n).saturating_add(1);
+        let next = a.checked_rem(self.n).unwrap_or(0).saturating_add(1);
+        let other = if a == b { next } else { b };
+        Ends {
+            a: Node(a),
+            b: Node(other),
         }
     }
-    measure(&rt, timed, 64, 256, 512)?;
-    measure(&rt, timed, 512, 2048, 8192)?;
-    measure(&rt, timed, 4096, 16384, 65536)
-}
 
-/// The ends of link i, counted from 0: a path over all nodes first, then links between any two.
-fn ends_of(random: &mut Random, i: u32, n: u32) -> Ends {
-    if i < n.saturating_sub(1) {
-        return Ends {
-            a: Node(i.saturating_add(1)),
-            b: Node(i.saturating_add(2)),
-        };
+    /// A change that keeps the path present: a link of it is only set, any other is set or flipped.
+    fn change(self, random: &mut Random) -> Change<Cost> {
+        let link = random.below(self.m).saturating_add(1);
+        if link >= self.n && random.below(3) == 0 {
+            return Change::Flip(link);
+        }
+        Change::Set(link, Cost(random.below(1_000_000)))
     }
-    let a = random.below(n).saturating_add(1);
-    let b = random.below(n).saturating_add(1);
-    let next = a.checked_rem(n).unwrap_or(0).saturating_add(1);
-    let other = if a == b { next } else { b };
-    Ends {
-        a: Node(a),
-        b: Node(other),
+
+    /// m + k + 4 × k × L, with L least such that 2^L is at least m.
+    fn bound(self) -> u64 {
+        let m = u64::from(self.m);
+        let k = u64::from(self.k);
+        let levels = u64::from(m.next_power_of_two().ilog2());
+        m.saturating_add(k)
+            .saturating_add(k.saturating_mul(4).saturating_mul(levels))
     }
 }
 
-/// A change that keeps the path present: a link of it is only set, any other is set or flipped.
-fn change_of(random: &mut Random, n: u32, m: u32) -> Change<Cost> {
-    let link = random.below(m).saturating_add(1);
-    if link >= n && random.below(3) == 0 {
-        return Change::Flip(link);
+fn main(rt: HostRuntime) -> anyhow::Result<()> {
+    let timed = env::args(&rt)?.skip(1).any(|word| word.as_str() == "time");
+    for size in SIZES {
+        measure(&rt, timed, size)?;
     }
-    Change::Set(link, Cost(random.below(1_000_000)))
+    Ok(())
 }
 
 /// A network and a batch, made up from its size.
@@ -73,46 +107,45 @@ struct Sample {
     batch: Vec<Change<Cost>>,
 }
 
-/// A sample of m links and k changes, in which the path keeps all nodes joined.
-fn made_up(heap: Global, n: u32, m: u32, k: u32) -> Result<Sample, AllocError> {
-    let mut random = Random(u64::from(n));
-    let mut ends = Vec::new(heap);
-    let mut links = Vec::new(heap);
-    let mut batch = Vec::new(heap);
-    for i in 0..m {
-        ends.push(ends_of(&mut random, i, n))?;
-        links.push(LinkState {
-            weight: Cost(random.below(1_000_000)),
-            present: true,
-        })?;
+impl Sample {
+    /// A sample of this size, in which the path keeps all nodes joined.
+    fn of(heap: Global, size: Size) -> Result<Sample, AllocError> {
+        let mut random = Random(u64::from(size.n));
+        let mut ends = Vec::new(heap);
+        let mut links = Vec::new(heap);
+        for i in 0..size.m {
+            ends.push(size.ends(&mut random, i))?;
+            links.push(LinkState {
+                weight: Cost(random.below(1_000_000)),
+                present: true,
+            })?;
+        }
+        let batch = (0..size.k).map(|_| size.change(&mut random)).collect(heap)?;
+        Ok(Sample { ends, links, batch })
     }
-    for _ in 0..k {
-        batch.push(change_of(&mut random, n, m))?;
-    }
-    Ok(Sample { ends, links, batch })
 }
 
-/// Opens a network of n nodes and m links, draws k changes and prints what came.
-fn measure(rt: &HostRuntime, timed: bool, n: u32, m: u32, k: u32) -> anyhow::Result<()> {
-    let Sample { ends, links, batch } = made_up(rt.alloc(), n, m, k)?;
-    let mut links = links;
+/// Opens a network of this size, draws its changes and prints what came.
+fn measure(rt: &HostRuntime, timed: bool, size: Size) -> anyhow::Result<()> {
+    let Size { n, m, k } = size;
+    let mut sample = Sample::of(rt.alloc(), size)?;
     let mut tree = vec![in rt.alloc(); 0u32; n as usize]?;
     let mut start = vec![in rt.alloc(); 0u32; n as usize]?;
     let mut entries = vec![in rt.alloc(); (0u32, 0u32); k as usize]?;
-    let size = (n as usize)
+    let records = (n as usize)
         .saturating_add(m as usize)
         .saturating_add(k as usize);
-    let mut work = vec![in rt.alloc(); 0u32; size.saturating_mul(64)]?;
+    let mut work = vec![in rt.alloc(); 0u32; records.saturating_mul(64)]?;
     let tables = Tables {
         n,
-        ends: ends.as_slice(),
-        links: links.as_mut_slice(),
+        ends: sample.ends.as_slice(),
+        links: sample.links.as_mut_slice(),
         tree: tree.as_mut_slice(),
     };
     let mut book = Book::open(tables, work.as_mut_slice());
     let begun = Instant::now(rt)?;
     let drawn = book.draw(
-        batch.as_slice(),
+        sample.batch.as_slice(),
         start.as_mut_slice(),
         entries.as_mut_slice(),
         work.as_mut_slice(),
@@ -120,7 +153,7 @@ fn measure(rt: &HostRuntime, timed: bool, n: u32, m: u32, k: u32) -> anyhow::Res
     let took = begun.elapsed(rt)?;
     println!(rt; "{n} nodes, {m} links, {k} changes")?;
     match drawn {
-        Ok(plan) => tell(rt, plan.work, bound(m, k), checksum(entries.as_slice()))?,
+        Ok(plan) => tell(rt, plan.work, size.bound(), checksum(entries.as_slice()))?,
         Err(fault) => println!(rt; "  refused {}", Fault::from(fault).code)?,
     }
     if timed {
@@ -134,31 +167,12 @@ fn tell(rt: &HostRuntime, count: u64, limit: u64, sum: u64) -> io::Result<()> {
     println!(rt; "  work {count}, at most {limit}; entries {sum}")
 }
 
-/// m + k + 4 × k × L, with L least such that 2^L is at least m.
-fn bound(m: u32, k: u32) -> u64 {
-    let mut power = 1u64;
-    let mut l = 0u64;
-    for _ in 0..32 {
-        if power < u64::from(m) {
-            power = power.saturating_mul(2);
-            l = l.saturating_add(1);
-        }
-    }
-    let k = u64::from(k);
-    u64::from(m)
-        .saturating_add(k)
-        .saturating_add(k.saturating_mul(4).saturating_mul(l))
-}
-
-/// A sum over all entries in which each place counts differently.
+/// A sum over all numbers of the entries in which each place counts differently.
 fn checksum(entries: &[(u32, u32)]) -> u64 {
-    let mut sum = 0u64;
-    for entry in entries {
-        sum = sum
-            .wrapping_mul(31)
-            .wrapping_add(u64::from(entry.0))
-            .wrapping_mul(31)
-            .wrapping_add(u64::from(entry.1));
-    }
-    sum
+    entries
+        .iter()
+        .flat_map(|(leaving, coming)| [*leaving, *coming])
+        .fold(0, |sum, number| {
+            u64::wrapping_mul(sum, 31).wrapping_add(u64::from(number))
+        })
 }

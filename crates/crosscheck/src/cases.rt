@@ -1,5 +1,5 @@
 //! Cases written by hand.
-use crate::simple::forecast::{Case, Lent};
+use crate::simple::forecast::Case;
 use crate::simple::records::{Action, Change, Link, Weight};
 use std::alloc::{AllocError, Global};
 
@@ -21,10 +21,8 @@ pub fn link(a: u32, b: u32, cost: u32) -> Link {
 /// An absent link.
 pub fn absent(a: u32, b: u32, cost: u32) -> Link {
     Link {
-        a,
-        b,
-        weight: Weight { class: 0, cost },
         present: false,
+        ..link(a, b, cost)
     }
 }
 
@@ -51,12 +49,7 @@ pub fn flip(link: u32) -> Change {
 
 /// A case with tables just as long as needed.
 pub fn case(heap: Global, n: u32, links: &[Link], changes: &[Change]) -> Result<Case, AllocError> {
-    Ok(Case {
-        n,
-        links: links.to_vec(heap)?,
-        changes: changes.to_vec(heap)?,
-        lent: Lent::exact(n as usize, links.len(), changes.len()),
-    })
+    Ok(Case::exact(n, links.to_vec(heap)?, changes.to_vec(heap)?))
 }
 
 /// The links of the four-switch plant.

@@ -2,17 +2,18 @@
 use crate::failure::Failure;
 use crate::simple::forecast::Case;
 use crate::simple::records::{Action, Change, Link, Weight};
-use faults::{DrawFault, OpenFault};
+use faults::{DrawFault, OpenFault, WeightFault};
 use network::{Ends, LinkState, Node};
 use planner::{Book, Drawn, Tables};
 use std::alloc::Global;
-use weights::{Class, Cost, Ordered, Side};
+use std::iter::repeat;
+use weights::{Class, Cost, Side};
 
 /// What stands in tables before the planner writes there.
 pub const BLANK: u32 = 0xdead_beef;
 
 /// What stands in a link table past the links of its case.
-pub const SPARE: Link = Link {
+const SPARE: Link = Link {
     a: 0,
     b: 0,
     weight: Weight { class: 0, cost: 77 },
@@ -20,177 +21,202 @@ pub const SPARE: Link = Link {
 };
 
 /// A weight kind of the planner.
-pub trait Kind: weights::Weight {
+pub trait Kind: weights::Weight + TryFrom<Weight, Error = WeightFault> {
     /// How many classes its weights have.
-    fn classes() -> u32;
-
-    /// A weight of this kind.
-    fn made(weight: Weight) -> Result<Self, Failure>;
+    const CLASSES: u32;
 }
 
-impl Kind for Cost {
-    fn classes() -> u32 {
-        1
-    }
+impl TryFrom<Weight> for Cost {
+    type Error = WeightFault;
 
-    fn made(weight: Weight) -> Result<Cost, Failure> {
+    fn try_from(weight: Weight) -> Result<Cost, WeightFault> {
         Ok(Cost(weight.cost))
     }
 }
 
-impl Kind for Class {
-    fn classes() -> u32 {
-        8
-    }
+impl Kind for Cost {
+    const CLASSES: u32 = 1;
+}
 
-    fn made(weight: Weight) -> Result<Class, Failure> {
-        let class = Class::new(weight.class, weight.cost)?;
-        Ok(class)
+impl TryFrom<Weight> for Class {
+    type Error = WeightFault;
+
+    fn try_from(weight: Weight) -> Result<Class, WeightFault> {
+        Class::new(weight.class, weight.cost)
     }
 }
 
+impl Kind for Class {
+    const CLASSES: u32 = 8;
+}
+
 /// A change as the planner takes it.
-fn change_of<W: Kind>(change: Change) -> Result<network::Change<W>, Failure> {
-    match change.action {
-        Action::Set(weight) => Ok(network::Change::Set(change.link, W::made(weight)?)),
-        Action::Remove => Ok(network::Change::Remove(change.link)),
-        Action::Flip => Ok(network::Change::Flip(change.link)),
+impl<W: Kind> TryFrom<Change> for network::Change<W> {
+    type Error = WeightFault;
+
+    fn try_from(change: Change) -> Result<network::Change<W>, WeightFault> {
+        let Change { link, action } = change;
+        match action {
+            Action::Set(weight) => Ok(network::Change::Set(link, W::try_from(weight)?)),
+            Action::Remove => Ok(network::Change::Remove(link)),
+            Action::Flip => Ok(network::Change::Flip(link)),
+        }
+    }
+}
+
+/// The ends of a link.
+impl From<Link> for Ends {
+    fn from(link: Link) -> Ends {
+        Ends {
+            a: Node(link.a),
+            b: Node(link.b),
+        }
+    }
+}
+
+/// The weight and the state of a link.
+impl<W: Kind> TryFrom<Link> for LinkState<W> {
+    type Error = WeightFault;
+
+    fn try_from(link: Link) -> Result<LinkState<W>, WeightFault> {
+        let weight = W::try_from(link.weight)?;
+        Ok(LinkState {
+            weight,
+            present: link.present,
+        })
+    }
+}
+
+/// The tables that a network is opened over.
+#[derive(Drop)]
+pub struct Opening<W> {
+    n: u32,
+    pub ends: Vec<Ends>,
+    links: Vec<LinkState<W>>,
+    pub tree: Vec<u32>,
+    work: Vec<u32>,
+}
+
+impl<W: Kind> Opening<W> {
+    fn of(heap: Global, case: &Case) -> Result<Opening<W>, Failure> {
+        let ends = case
+            .links
+            .iter()
+            .map(|link| Ends::from(*link))
+            .collect(heap)?;
+        let links = case
+            .links
+            .iter()
+            .copied()
+            .chain(repeat(SPARE))
+            .take(case.lent.links)
+            .map(|link| -> Result<LinkState<W>, Failure> { Ok(LinkState::try_from(link)?) })
+            .try_collect(heap)?;
+        Ok(Opening {
+            n: case.n,
+            ends,
+            links,
+            tree: vec![in heap; BLANK; case.lent.tree]?,
+            work: vec![in heap; BLANK; case.lent.open_work]?,
+        })
+    }
+
+    /// The book of the network.
+    fn book(&mut self) -> Book<'_, '_, '_, W> {
+        let Opening {
+            n,
+            ends,
+            links,
+            tree,
+            work,
+        } = self;
+        let tables = Tables {
+            n: *n,
+            ends: ends.as_slice(),
+            links: links.as_mut_slice(),
+            tree: tree.as_mut_slice(),
+        };
+        Book::open(tables, work.as_mut_slice())
+    }
+}
+
+/// The tables that a batch is drawn with.
+#[derive(Drop)]
+pub struct Drawing<W> {
+    batch: Vec<network::Change<W>>,
+    pub start: Vec<u32>,
+    pub entries: Vec<(u32, u32)>,
+    work: Vec<u32>,
+}
+
+impl<W: Kind> Drawing<W> {
+    pub fn of(heap: Global, case: &Case) -> Result<Drawing<W>, Failure> {
+        let batch = case
+            .changes
+            .iter()
+            .map(|change| -> Result<network::Change<W>, Failure> {
+                Ok(network::Change::try_from(*change)?)
+            })
+            .try_collect(heap)?;
+        Ok(Drawing {
+            batch,
+            start: vec![in heap; BLANK; case.lent.start]?,
+            entries: vec![in heap; (BLANK, BLANK); case.lent.entries]?,
+            work: vec![in heap; BLANK; case.lent.draw_work]?,
+        })
+    }
+
+    /// Draws the batch from a book.
+    fn draw(&mut self, book: &mut Book<'_, '_, '_, W>) -> Result<Drawn, DrawFault> {
+        book.draw(
+            self.batch.as_slice(),
+            self.start.as_mut_slice(),
+            self.entries.as_mut_slice(),
+            self.work.as_mut_slice(),
+        )
     }
 }
 
 /// The tables of a case.
 #[derive(Drop)]
 pub struct Loan<W> {
-    pub ends: Vec<Ends>,
-    pub links: Vec<LinkState<W>>,
-    pub batch: Vec<network::Change<W>>,
-    pub tree: Vec<u32>,
-    pub start: Vec<u32>,
-    pub entries: Vec<(u32, u32)>,
-    open_work: Vec<u32>,
-    draw_work: Vec<u32>,
-}
-
-/// The ends of some links.
-fn ends_of(heap: Global, links: &[Link]) -> Result<Vec<Ends>, Failure> {
-    let mut ends = Vec::new(heap);
-    for link in links {
-        ends.push(Ends {
-            a: Node(link.a),
-            b: Node(link.b),
-        })?;
-    }
-    Ok(ends)
-}
-
-/// A link table of this length.
-fn states_of<W: Kind>(
-    heap: Global,
-    links: &[Link],
-    len: usize,
-) -> Result<Vec<LinkState<W>>, Failure> {
-    let mut states = Vec::new(heap);
-    for i in 0..len {
-        let link = links.get(i).copied().unwrap_or(SPARE);
-        states.push(LinkState {
-            weight: W::made(link.weight)?,
-            present: link.present,
-        })?;
-    }
-    Ok(states)
-}
-
-/// The batch of some changes.
-fn batch_of<W: Kind>(heap: Global, changes: &[Change]) -> Result<Vec<network::Change<W>>, Failure> {
-    let mut batch = Vec::new(heap);
-    for change in changes {
-        batch.push(change_of::<W>(*change)?)?;
-    }
-    Ok(batch)
+    pub opening: Opening<W>,
+    pub drawing: Drawing<W>,
 }
 
 impl<W: Kind> Loan<W> {
     pub fn of(heap: Global, case: &Case) -> Result<Loan<W>, Failure> {
-        let lent = case.lent;
         Ok(Loan {
-            ends: ends_of(heap, case.links.as_slice())?,
-            links: states_of::<W>(heap, case.links.as_slice(), lent.links)?,
-            batch: batch_of::<W>(heap, case.changes.as_slice())?,
-            tree: vec![in heap; BLANK; lent.tree]?,
-            start: vec![in heap; BLANK; lent.start]?,
-            entries: vec![in heap; (BLANK, BLANK); lent.entries]?,
-            open_work: vec![in heap; BLANK; lent.open_work]?,
-            draw_work: vec![in heap; BLANK; lent.draw_work]?,
+            opening: Opening::of(heap, case)?,
+            drawing: Drawing::of(heap, case)?,
         })
     }
 
-    /// Opens a network of n nodes, and tells the refusal if there is one.
-    pub fn open(&mut self, n: u32) -> Option<OpenFault> {
-        let book = Book::open(
-            Tables {
-                n,
-                ends: self.ends.as_slice(),
-                links: self.links.as_mut_slice(),
-                tree: self.tree.as_mut_slice(),
-            },
-            self.open_work.as_mut_slice(),
-        );
-        book.refusal()
+    /// Opens the network.
+    pub fn open(&mut self) -> Result<(), OpenFault> {
+        self.opening.book().refusal().map_or(Ok(()), Err)
     }
 
-    /// Opens a network of n nodes and draws the batch.
-    pub fn draw(&mut self, n: u32) -> Result<Drawn, DrawFault> {
-        let mut book = Book::open(
-            Tables {
-                n,
-                ends: self.ends.as_slice(),
-                links: self.links.as_mut_slice(),
-                tree: self.tree.as_mut_slice(),
-            },
-            self.open_work.as_mut_slice(),
-        );
-        book.draw(
-            self.batch.as_slice(),
-            self.start.as_mut_slice(),
-            self.entries.as_mut_slice(),
-            self.draw_work.as_mut_slice(),
-        )
+    /// Opens the network and draws the batch.
+    pub fn draw(&mut self) -> Result<Drawn, DrawFault> {
+        self.drawing.draw(&mut self.opening.book())
     }
 
-    /// Opens the network of n nodes that another loan begins with, draws that loan's batch, and then this one's from the
-    /// same book. The link tables of the two are exchanged.
-    pub fn draw_after(&mut self, first: &mut Loan<W>, n: u32) -> Result<Drawn, DrawFault> {
-        std::mem::swap(&mut self.links, &mut first.links);
-        let mut book = Book::open(
-            Tables {
-                n,
-                ends: self.ends.as_slice(),
-                links: self.links.as_mut_slice(),
-                tree: self.tree.as_mut_slice(),
-            },
-            self.open_work.as_mut_slice(),
-        );
-        let _ = book.draw(
-            first.batch.as_slice(),
-            first.start.as_mut_slice(),
-            first.entries.as_mut_slice(),
-            first.draw_work.as_mut_slice(),
-        );
-        book.draw(
-            self.batch.as_slice(),
-            self.start.as_mut_slice(),
-            self.entries.as_mut_slice(),
-            self.draw_work.as_mut_slice(),
-        )
+    /// Opens the network, draws the batch, and then a second one from the same book, with tables that take the place of
+    /// the first ones.
+    pub fn draw_again(&mut self, second: Drawing<W>) -> Result<Drawn, DrawFault> {
+        let mut book = self.opening.book();
+        let _ = self.drawing.draw(&mut book);
+        self.drawing = second;
+        self.drawing.draw(&mut book)
     }
 
     /// Whether the link table has these links, and past them spare ones.
     pub fn has_links(&self, links: &[Link]) -> Result<bool, Failure> {
-        for (i, state) in self.links.iter().enumerate() {
-            let link = links.get(i).copied().unwrap_or(SPARE);
-            let weight = W::made(link.weight)?;
-            let level = matches!(state.weight.side_of(&weight), Side::Level);
-            if !level || state.present != link.present {
+        let wanted = links.iter().copied().chain(repeat(SPARE));
+        for (state, link) in self.opening.links.iter().zip(wanted) {
+            let weight = W::try_from(link.weight)?;
+            if state.weight.side_of(&weight) != Side::Level || state.present != link.present {
                 return Ok(false);
             }
         }

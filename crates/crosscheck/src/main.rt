@@ -6,6 +6,7 @@
 mod cases;
 mod compare;
 mod failure;
+mod group;
 mod known;
 mod limits;
 mod loan;
@@ -21,7 +22,7 @@ use failure::Failure;
 use limits::largest_sizes;
 use random::Spread;
 use refusals::every_refusal;
-use sweeps::{Sweep, all_sizes, costs_spread, parallel_links, second_draws};
+use sweeps::{Sizes, all_sizes, costs_spread, parallel_links, second_draws};
 use tally::Tally;
 use weights::{Class, Cost};
 use worked::worked_plants;
@@ -30,13 +31,13 @@ use worked::worked_plants;
 const ROUNDS: u32 = 1000;
 
 /// Many small networks.
-const SMALL: Sweep = Sweep {
+const SMALL: Sizes = Sizes {
     most_links: 40,
     rounds: 120,
 };
 
 /// One network of each size.
-const LARGE: Sweep = Sweep {
+const LARGE: Sizes = Sizes {
     most_links: 300,
     rounds: 1,
 };
@@ -86,16 +87,10 @@ impl Report<'_> {
     /// Prints the counts of a group, and its first disagreement if there is one.
     fn group(&mut self, name: &str, tally: Tally) -> Result<(), Failure> {
         let rt = self.rt;
-        print!(rt; "{name}: {} cases, ", tally.cases)?;
-        print!(rt; "{} plans of {} changes, ", tally.plans, tally.changes)?;
-        print!(rt; "{} refused, ", tally.refusals)?;
-        println!(rt;
-            "{} moments played, {} changes cancelled",
-            tally.moments, tally.cancels
-        )?;
+        println!(rt; "{name}: {tally}")?;
         if let Some((number, finding)) = tally.first {
             print!(rt; "  {} disagreements, ", tally.disagreements)?;
-            println!(rt; "the first at case {number}: {}", finding.text())?;
+            println!(rt; "the first at case {number}: {finding}")?;
         }
         self.disagreements = self.disagreements.saturating_add(tally.disagreements);
         Ok(())

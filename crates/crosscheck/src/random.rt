@@ -1,5 +1,6 @@
 //! Made-up networks and batches, the same in every run.
-use crate::simple::forecast::{Case, Lent, Table};
+use crate::cases::{flip, remove};
+use crate::simple::forecast::{Case, Lent};
 use crate::simple::records::{Action, Change, Link, Weight, apply, index};
 use crate::simple::tree::joined;
 use std::alloc::{AllocError, Global};
@@ -19,7 +20,7 @@ impl Random {
             .0
             .wrapping_mul(6364136223846793005)
             .wrapping_add(1442695040888963407);
-        let high = ((self.0 >> 33) & 0x7fff_ffff) as u32;
+        let high = (self.0 >> 33) as u32;
         high.checked_rem(limit).unwrap_or(0)
     }
 
@@ -63,7 +64,7 @@ impl Spread {
 }
 
 /// What a batch may do.
-#[derive(Clone, Copy)]
+#[derive(Clone, Copy, PartialEq)]
 pub enum Care {
     /// Every change leaves all nodes joined.
     Joining,
@@ -169,21 +170,25 @@ impl Recipe {
 
     /// The links, in any order. One in four of those that are not needed to join all nodes is absent.
     fn links(&self, heap: Global, random: &mut Random) -> Result<Vec<Link>, AllocError> {
-        let loose = !matches!(self.care, Care::Joining) && random.one_in(8);
-        let mut links = Vec::new(heap);
-        for i in 0..self.m {
-            let (a, b) = self.ends(random, i);
-            let needed = !loose && i.saturating_add(1) < self.n;
-            let weight = self.weight(random);
-            links.push(Link {
-                a,
-                b,
-                weight,
-                present: needed || !random.one_in(4),
-            })?;
-        }
+        let loose = self.care != Care::Joining && random.one_in(8);
+        let needed = if loose { 0 } else { self.n.saturating_sub(1) };
+        let mut links: Vec<Link> = (0..self.m)
+            .map(|i| self.link(random, i, i < needed))
+            .collect(heap)?;
         shuffle(random, links.as_mut_slice());
         Ok(links)
+    }
+
+    /// Link i, counted from 0: present, or absent one time in four if it is not needed.
+    fn link(&self, random: &mut Random, i: u32, needed: bool) -> Link {
+        let (a, b) = self.ends(random, i);
+        let weight = self.weight(random);
+        Link {
+            a,
+            b,
+            weight,
+            present: needed || !random.one_in(4),
+        }
     }
 
     /// The batch.
@@ -194,16 +199,14 @@ impl Recipe {
         links: &[Link],
     ) -> Result<Vec<Change>, AllocError> {
         let mut links = links.to_vec(heap)?;
-        let mut changes = Vec::new(heap);
         let careful = match self.care {
             Care::Joining => self.k,
             Care::Parting | Care::Faulty => random.below(self.k.saturating_add(1)),
         };
-        for i in 0..self.k {
-            let change = self.change(heap, random, links.as_mut_slice(), i < careful)?;
-            changes.push(change)?;
-        }
-        if matches!(self.care, Care::Faulty) {
+        let mut changes: Vec<Change> = (0..self.k)
+            .map(|i| self.change(heap, random, links.as_mut_slice(), i < careful))
+            .try_collect(heap)?;
+        if self.care == Care::Faulty {
             self.spoil(random, changes.as_mut_slice());
         }
         Ok(changes)
@@ -228,15 +231,10 @@ impl Recipe {
             link,
             action: Action::Set(self.weight(random)),
         };
-        let change = match (random.below(4), is_present(links, link)) {
-            (0, _) => Change {
-                link,
-                action: Action::Flip,
-            },
-            (1, true) => Change {
-                link,
-                action: Action::Remove,
-            },
+        let present = links.get(index(link)).is_some_and(|link| link.present);
+        let change = match (random.below(4), present) {
+            (0, _) => flip(link),
+            (1, true) => remove(link),
             _ => set,
         };
         apply(links, change);
@@ -257,10 +255,7 @@ impl Recipe {
             _ => random.below(self.m).saturating_add(1),
         };
         for change in changes.iter_mut().skip(at).take(2) {
-            *change = Change {
-                link,
-                action: Action::Remove,
-            };
+            *change = remove(link);
         }
     }
 
@@ -277,29 +272,43 @@ impl Recipe {
             draw_work: exact.draw_work.saturating_add(more),
         };
         match random.below(160) {
-            0 => ample.with(Table::Links, exact.links.saturating_sub(1)),
-            1 => ample.with(Table::Links, exact.links.saturating_add(1)),
-            2 => ample.with(Table::Tree, exact.tree.saturating_sub(1)),
-            3 => ample.with(Table::OpenWork, exact.open_work.saturating_sub(1)),
-            4 => ample.with(Table::Start, exact.start.saturating_sub(1)),
-            5 => ample.with(Table::Entries, exact.entries.saturating_sub(1)),
-            6 => ample.with(Table::DrawWork, exact.draw_work.saturating_sub(1)),
+            0 => Lent {
+                links: exact.links.saturating_sub(1),
+                ..ample
+            },
+            1 => Lent {
+                links: exact.links.saturating_add(1),
+                ..ample
+            },
+            2 => Lent {
+                tree: exact.tree.saturating_sub(1),
+                ..ample
+            },
+            3 => Lent {
+                open_work: exact.open_work.saturating_sub(1),
+                ..ample
+            },
+            4 => Lent {
+                start: exact.start.saturating_sub(1),
+                ..ample
+            },
+            5 => Lent {
+                entries: exact.entries.saturating_sub(1),
+                ..ample
+            },
+            6 => Lent {
+                draw_work: exact.draw_work.saturating_sub(1),
+                ..ample
+            },
             _ => ample,
         }
-    }
-}
-
-/// Whether the link of this number is present.
-fn is_present(links: &[Link], number: u32) -> bool {
-    match links.get(index(number)) {
-        Some(link) => link.present,
-        None => false,
     }
 }
 
 /// Puts links into any order.
 fn shuffle(random: &mut Random, links: &mut [Link]) {
     let len = links.len();
+    // An exchange takes the two places, so the loop goes over places.
     for i in 0..len {
         let j = random.below(len.min(u32::MAX as usize) as u32) as usize;
         if j < len {

@@ -1,8 +1,8 @@
 //! Each refusal of open and draw, and cases that just escape it.
 use crate::cases::{absent, case, flip, four_switches, link, remove, set};
 use crate::failure::Failure;
-use crate::known::answer_is;
-use crate::simple::forecast::{Lent, Table};
+use crate::group::Group;
+use crate::simple::forecast::{Lent, Refusal};
 use crate::simple::records::Change;
 use crate::tally::{Finding, Tally};
 use faults::{Fault, Layer};
@@ -10,127 +10,158 @@ use std::alloc::Global;
 use weights::{Class, Cost};
 
 pub fn every_refusal(heap: Global) -> Result<Tally, Failure> {
-    let mut tally = Tally::new();
-    short_tables(heap, &mut tally)?;
-    bad_links(heap, &mut tally)?;
-    unjoined(heap, &mut tally)?;
-    bad_changes(heap, &mut tally)?;
-    high_classes(&mut tally);
-    Ok(tally)
+    let mut group = Group::new(heap);
+    short_tables(&mut group)?;
+    bad_links(&mut group)?;
+    unjoined(&mut group)?;
+    bad_changes(&mut group)?;
+    high_classes(&mut group.tally);
+    Ok(group.tally)
 }
 
 /// The four-switch plant with a good change and a bad one, and tables one item shorter or longer than needed. The bad
 /// change is found only where no table is too short. A link table may not be longer either.
-fn short_tables(heap: Global, tally: &mut Tally) -> Result<(), Failure> {
+fn short_tables(group: &mut Group) -> Result<(), Failure> {
     let exact = Lent::exact(4, 5, 2);
+    let bad = Refusal::LinkOutside(2);
     let tables = [
-        (exact, 22, 2),
-        (exact.with(Table::Links, 4), 12, 0),
-        (exact.with(Table::Links, 6), 12, 0),
-        (exact.with(Table::Tree, 2), 12, 0),
-        (exact.with(Table::Tree, 4), 22, 2),
-        (exact.with(Table::OpenWork, 575), 12, 0),
-        (exact.with(Table::OpenWork, 577), 22, 2),
-        (exact.with(Table::Start, 2), 21, 0),
-        (exact.with(Table::Start, 4), 22, 2),
-        (exact.with(Table::Entries, 1), 21, 0),
-        (exact.with(Table::Entries, 3), 22, 2),
-        (exact.with(Table::DrawWork, 703), 21, 0),
-        (exact.with(Table::DrawWork, 705), 22, 2),
+        (exact, bad),
+        (Lent { links: 4, ..exact }, Refusal::OpenTables),
+        (Lent { links: 6, ..exact }, Refusal::OpenTables),
+        (Lent { tree: 2, ..exact }, Refusal::OpenTables),
+        (Lent { tree: 4, ..exact }, bad),
+        (
+            Lent {
+                open_work: 575,
+                ..exact
+            },
+            Refusal::OpenTables,
+        ),
+        (
+            Lent {
+                open_work: 577,
+                ..exact
+            },
+            bad,
+        ),
+        (Lent { start: 2, ..exact }, Refusal::DrawTables),
+        (Lent { start: 4, ..exact }, bad),
+        (
+            Lent {
+                entries: 1,
+                ..exact
+            },
+            Refusal::DrawTables,
+        ),
+        (
+            Lent {
+                entries: 3,
+                ..exact
+            },
+            bad,
+        ),
+        (
+            Lent {
+                draw_work: 703,
+                ..exact
+            },
+            Refusal::DrawTables,
+        ),
+        (
+            Lent {
+                draw_work: 705,
+                ..exact
+            },
+            bad,
+        ),
     ];
-    for (lent, code, place) in tables {
-        let mut plant = case(heap, 4, &four_switches(), &[set(4, 3), flip(6)])?;
+    for (lent, refusal) in tables {
+        let mut plant = case(group.heap, 4, &four_switches(), &[set(4, 3), flip(6)])?;
         plant.lent = lent;
-        answer_is::<Cost>(heap, &plant, code, place, tally)?;
+        group.answer_is::<Cost>(&plant, Err(refusal))?;
     }
     Ok(())
 }
 
 /// Ends that are no nodes, ends that are one node, and links that do not join all nodes: in a network of three nodes,
 /// with a good link before the one in question.
-fn bad_links(heap: Global, tally: &mut Tally) -> Result<(), Failure> {
+fn bad_links(group: &mut Group) -> Result<(), Failure> {
     let links = [
-        (link(2, 3, 5), 0, 0),
-        (link(0, 3, 5), 13, 2),
-        (link(3, 0, 5), 13, 2),
-        (link(2, 4, 5), 13, 2),
-        (link(4, 4, 5), 13, 2),
-        (link(3, 3, 5), 14, 2),
-        (link(2, 1, 5), 15, 0),
-        (absent(2, 3, 5), 15, 0),
+        (link(2, 3, 5), Ok(())),
+        (link(0, 3, 5), Err(Refusal::EndOutside(2))),
+        (link(3, 0, 5), Err(Refusal::EndOutside(2))),
+        (link(2, 4, 5), Err(Refusal::EndOutside(2))),
+        (link(4, 4, 5), Err(Refusal::EndOutside(2))),
+        (link(3, 3, 5), Err(Refusal::SameEnds(2))),
+        (link(2, 1, 5), Err(Refusal::NotJoined)),
+        (absent(2, 3, 5), Err(Refusal::NotJoined)),
     ];
-    for (second, code, place) in links {
-        let plant = case(heap, 3, &[link(1, 2, 5), second], &[set(1, 6)])?;
-        answer_is::<Cost>(heap, &plant, code, place, tally)?;
+    for (second, answer) in links {
+        let plant = case(group.heap, 3, &[link(1, 2, 5), second], &[set(1, 6)])?;
+        group.answer_is::<Cost>(&plant, answer)?;
     }
-    let both = case(heap, 3, &[link(3, 3, 5), link(0, 3, 5)], &[])?;
-    answer_is::<Cost>(heap, &both, 14, 1, tally)
+    let both = case(group.heap, 3, &[link(3, 3, 5), link(0, 3, 5)], &[])?;
+    group.answer_is::<Cost>(&both, Err(Refusal::SameEnds(1)))
 }
 
 /// No node, one node and two nodes without a good link.
-fn unjoined(heap: Global, tally: &mut Tally) -> Result<(), Failure> {
-    answer_is::<Cost>(heap, &case(heap, 0, &[], &[])?, 10, 0, tally)?;
-    answer_is::<Cost>(heap, &case(heap, 1, &[], &[flip(1)])?, 22, 1, tally)?;
-    answer_is::<Cost>(heap, &case(heap, 1, &[link(1, 1, 5)], &[])?, 14, 1, tally)?;
-    answer_is::<Cost>(heap, &case(heap, 2, &[], &[set(1, 5)])?, 15, 0, tally)
+fn unjoined(group: &mut Group) -> Result<(), Failure> {
+    let none = case(group.heap, 0, &[], &[])?;
+    group.answer_is::<Cost>(&none, Err(Refusal::NodeCount))?;
+    let one = case(group.heap, 1, &[], &[flip(1)])?;
+    group.answer_is::<Cost>(&one, Err(Refusal::LinkOutside(1)))?;
+    let tied = case(group.heap, 1, &[link(1, 1, 5)], &[])?;
+    group.answer_is::<Cost>(&tied, Err(Refusal::SameEnds(1)))?;
+    let two = case(group.heap, 2, &[], &[set(1, 5)])?;
+    group.answer_is::<Cost>(&two, Err(Refusal::NotJoined))
 }
 
 /// Draws changes of the four-switch plant with link 5 absent.
 fn draws_as(
-    heap: Global,
+    group: &mut Group,
     changes: &[Change],
-    code: u32,
-    place: u32,
-    tally: &mut Tally,
+    answer: Result<(), Refusal>,
 ) -> Result<(), Failure> {
-    let mut plant = case(heap, 4, &four_switches(), changes)?;
+    let mut plant = case(group.heap, 4, &four_switches(), changes)?;
     if let Some(fifth) = plant.links.get_mut(4) {
         fifth.present = false;
     }
-    answer_is::<Cost>(heap, &plant, code, place, tally)
+    group.answer_is::<Cost>(&plant, answer)
 }
 
 /// Faulty changes are found before one that parts the network, wherever they stand.
-fn bad_changes(heap: Global, tally: &mut Tally) -> Result<(), Failure> {
-    draws_as(heap, &[flip(0)], 22, 1, tally)?;
-    draws_as(heap, &[set(6, 1)], 22, 1, tally)?;
-    draws_as(heap, &[flip(5), remove(6)], 22, 2, tally)?;
-    draws_as(heap, &[remove(5)], 23, 1, tally)?;
-    draws_as(heap, &[flip(5), remove(5)], 0, 0, tally)?;
-    draws_as(heap, &[remove(4), remove(4), flip(9)], 23, 2, tally)?;
-    draws_as(
-        heap,
-        &[remove(1), remove(2), remove(3), flip(6)],
-        22,
-        4,
-        tally,
-    )?;
-    draws_as(heap, &[remove(1), remove(2), set(1, 1)], 24, 2, tally)?;
-    draws_as(
-        heap,
-        &[remove(1), flip(5), flip(2), set(1, 1)],
-        24,
-        3,
-        tally,
-    )?;
-    draws_as(heap, &[remove(1), flip(5), flip(4), set(1, 1)], 0, 0, tally)
+fn bad_changes(group: &mut Group) -> Result<(), Failure> {
+    let outside = |change| Err(Refusal::LinkOutside(change));
+    draws_as(group, &[flip(0)], outside(1))?;
+    draws_as(group, &[set(6, 1)], outside(1))?;
+    draws_as(group, &[flip(5), remove(6)], outside(2))?;
+    let absent = |change| Err(Refusal::RemoveAbsent(change));
+    draws_as(group, &[remove(5)], absent(1))?;
+    draws_as(group, &[flip(5), remove(5)], Ok(()))?;
+    draws_as(group, &[remove(4), remove(4), flip(9)], absent(2))?;
+    let removes = [remove(1), remove(2), remove(3), flip(6)];
+    draws_as(group, &removes, outside(4))?;
+    let parted = |change| Err(Refusal::Parted(change));
+    draws_as(group, &[remove(1), remove(2), set(1, 1)], parted(2))?;
+    let flips = [remove(1), flip(5), flip(2), set(1, 1)];
+    draws_as(group, &flips, parted(3))?;
+    draws_as(group, &[remove(1), flip(5), flip(4), set(1, 1)], Ok(()))
 }
 
 /// Classes go up to 7.
 fn high_classes(tally: &mut Tally) {
+    let fault = Fault {
+        layer: Layer::Book,
+        code: 16,
+        place: 0,
+    };
     for class in 0..20 {
         tally.count_case();
-        match Class::new(class, 5) {
-            Ok(_) => tally.expect(class <= 7, Finding::Class),
-            Err(fault) => {
-                tally.count_refusal();
-                let wanted = Fault {
-                    layer: Layer::Book,
-                    code: 16,
-                    place: 0,
-                };
-                tally.expect(class > 7 && Fault::from(fault) == wanted, Finding::Class);
-            }
+        let heard = Class::new(class, 5).err().map(Fault::from);
+        if heard.is_some() {
+            tally.count_refusal();
         }
+        let wanted = (class > 7).then_some(fault);
+        tally.expect(heard == wanted, Finding::Class);
     }
 }

@@ -1,4 +1,5 @@
 //! Counts of what was compared, and of what disagreed.
+use std::fmt;
 
 /// What disagreed.
 #[derive(Clone, Copy)]
@@ -18,9 +19,9 @@ pub enum Finding {
     Memory,
 }
 
-impl Finding {
-    pub fn text(self) -> &'static str {
-        match self {
+impl fmt::Display for Finding {
+    fn fmt<W: fmt::Write>(&self, f: &mut fmt::Formatter<W>) -> fmt::Result {
+        f.write_str(match self {
             Finding::Known => "what was known beforehand",
             Finding::Class => "the making of a class weight",
             Finding::OpenAnswer => "the answer of open",
@@ -33,47 +34,32 @@ impl Finding {
             Finding::Carrying => "what carries",
             Finding::Player => "the answer of a player",
             Finding::Memory => "memory past a fabric",
-        }
+        })
     }
 }
 
 /// The counts of one group of cases.
-#[derive(Drop)]
+#[derive(Default, Drop)]
 pub struct Tally {
-    pub cases: u64,
-    pub plans: u64,
-    pub changes: u64,
-    pub refusals: u64,
-    pub moments: u64,
-    pub cancels: u64,
+    cases: u64,
+    plans: u64,
+    changes: u64,
+    refusals: u64,
+    moments: u64,
+    cancels: u64,
     pub disagreements: u64,
     /// The case of the first disagreement, counted from 1, and what disagreed.
     pub first: Option<(u64, Finding)>,
 }
 
 impl Tally {
-    pub fn new() -> Tally {
-        Tally {
-            cases: 0,
-            plans: 0,
-            changes: 0,
-            refusals: 0,
-            moments: 0,
-            cancels: 0,
-            disagreements: 0,
-            first: None,
-        }
-    }
-
     /// Counts a disagreement unless both agree.
     pub fn expect(&mut self, agree: bool, finding: Finding) {
         if agree {
             return;
         }
         self.disagreements = self.disagreements.saturating_add(1);
-        if self.first.is_none() {
-            self.first = Some((self.cases, finding));
-        }
+        self.first = self.first.or(Some((self.cases, finding)));
     }
 
     pub fn count_case(&mut self) {
@@ -95,5 +81,25 @@ impl Tally {
 
     pub fn count_cancel(&mut self) {
         self.cancels = self.cancels.saturating_add(1);
+    }
+}
+
+/// What was compared.
+impl fmt::Display for Tally {
+    fn fmt<W: fmt::Write>(&self, f: &mut fmt::Formatter<W>) -> fmt::Result {
+        let Tally {
+            cases,
+            plans,
+            changes,
+            refusals,
+            moments,
+            cancels,
+            ..
+        } = self;
+        write!(
+            f,
+            "{cases} cases, {plans} plans of {changes} changes, {refusals} refused, "
+        )?;
+        write!(f, "{moments} moments played, {cancels} changes cancelled")
     }
 }

@@ -15,17 +15,6 @@ pub struct Lent {
     pub draw_work: usize,
 }
 
-/// One of the tables.
-#[derive(Clone, Copy)]
-pub enum Table {
-    Links,
-    Tree,
-    OpenWork,
-    Start,
-    Entries,
-    DrawWork,
-}
-
 impl Lent {
     /// Just what n nodes, m links and k changes need.
     pub fn exact(n: usize, m: usize, k: usize) -> Lent {
@@ -39,20 +28,6 @@ impl Lent {
             draw_work: size.saturating_add(k).saturating_mul(64),
         }
     }
-
-    /// The same but for one table, which has another length.
-    pub fn with(self, table: Table, len: usize) -> Lent {
-        let mut lent = self;
-        match table {
-            Table::Links => lent.links = len,
-            Table::Tree => lent.tree = len,
-            Table::OpenWork => lent.open_work = len,
-            Table::Start => lent.start = len,
-            Table::Entries => lent.entries = len,
-            Table::DrawWork => lent.draw_work = len,
-        }
-        lent
-    }
 }
 
 /// A network of n nodes, changes of it, and the lengths of the tables.
@@ -64,11 +39,44 @@ pub struct Case {
     pub lent: Lent,
 }
 
-/// A refusal: its code and its place.
-#[derive(Clone, Copy, PartialEq)]
-pub struct Refusal {
-    pub code: u32,
-    pub place: u32,
+impl Case {
+    /// A case with tables just as long as needed.
+    pub fn exact(n: u32, links: Vec<Link>, changes: Vec<Change>) -> Case {
+        let lent = Lent::exact(n as usize, links.len(), changes.len());
+        Case {
+            n,
+            links,
+            changes,
+            lent,
+        }
+    }
+}
+
+/// Why a case is refused.
+#[derive(Clone, Copy, PartialEq, Eq)]
+pub enum Refusal {
+    /// No node, or more than 4,096.
+    NodeCount,
+    /// More than 16,384 links.
+    LinkCount,
+    /// The link table has another length than the ends list, or the tree table or the work area of open is too short.
+    OpenTables,
+    /// An end of this link is no node.
+    EndOutside(u32),
+    /// Both ends of this link are one node.
+    SameEnds(u32),
+    /// The present links do not join all nodes.
+    NotJoined,
+    /// More than 65,536 changes.
+    ChangeCount,
+    /// The start list, the entry table or the work area of draw is too short.
+    DrawTables,
+    /// This change is of no link.
+    LinkOutside(u32),
+    /// This change removes a link that is absent by then.
+    RemoveAbsent(u32),
+    /// After this change the present links do not join all nodes.
+    Parted(u32),
 }
 
 /// Why there is no forecast of an answer that is granted.
@@ -90,22 +98,32 @@ impl<T: Drop> From<AllocFailed<T>> for Stop {
     }
 }
 
-/// Refuses with this code and place if it is so.
-fn refuse_if(so: bool, code: u32, place: u32) -> Result<(), Stop> {
-    if so {
-        return Err(Stop::Refused(Refusal { code, place }));
+impl From<Refusal> for Stop {
+    fn from(refusal: Refusal) -> Stop {
+        Stop::Refused(refusal)
     }
-    Ok(())
+}
+
+/// Tells a refusal apart from memory that ran out.
+pub fn answered<T>(forecast: Result<T, Stop>) -> Result<Result<T, Refusal>, AllocError> {
+    match forecast {
+        Ok(value) => Ok(Ok(value)),
+        Err(Stop::Refused(refusal)) => Ok(Err(refusal)),
+        Err(Stop::Memory(e)) => Err(e),
+    }
+}
+
+/// Refuses if it is so.
+fn refuse_if(so: bool, refusal: Refusal) -> Result<(), Refusal> {
+    if so { Err(refusal) } else { Ok(()) }
 }
 
 /// Refuses ends that are no nodes, and ends that are one node.
-fn check_ends(n: u32, links: &[Link]) -> Result<(), Stop> {
-    let mut number = 0u32;
-    for link in links {
-        number = number.saturating_add(1);
+fn check_ends(n: u32, links: &[Link]) -> Result<(), Refusal> {
+    for (number, link) in (1u32..).zip(links) {
         let outside = link.a == 0 || link.a > n || link.b == 0 || link.b > n;
-        refuse_if(outside, 13, number)?;
-        refuse_if(link.a == link.b, 14, number)?;
+        refuse_if(outside, Refusal::EndOutside(number))?;
+        refuse_if(link.a == link.b, Refusal::SameEnds(number))?;
     }
     Ok(())
 }
@@ -114,35 +132,33 @@ fn check_ends(n: u32, links: &[Link]) -> Result<(), Stop> {
 pub fn open(heap: Global, case: &Case) -> Result<Forest, Stop> {
     let needs = Lent::exact(case.n as usize, case.links.len(), 0);
     let lent = case.lent;
-    refuse_if(case.n == 0 || case.n > 4096, 10, 0)?;
-    refuse_if(case.links.len() > 16384, 11, 0)?;
+    refuse_if(case.n == 0 || case.n > 4096, Refusal::NodeCount)?;
+    refuse_if(case.links.len() > 16384, Refusal::LinkCount)?;
     let short = lent.links != needs.links
         || lent.tree < needs.tree
         || lent.open_work < needs.open_work;
-    refuse_if(short, 12, 0)?;
+    refuse_if(short, Refusal::OpenTables)?;
     check_ends(case.n, case.links.as_slice())?;
     let tree = least_tree(heap, case.n, case.links.as_slice())?;
-    refuse_if(!tree.joined, 15, 0)?;
-    Ok(tree)
+    Ok(tree.ok_or(Refusal::NotJoined)?)
 }
 
 /// Refuses changes of no link, and removes of a link that is absent by then.
-fn check_changes(heap: Global, case: &Case) -> Result<(), Stop> {
+fn check_changes(case: &Case) -> Result<(), Stop> {
     let mut links = case.links.clone()?;
-    let mut place = 0u32;
-    for change in case.changes.iter() {
-        place = place.saturating_add(1);
-        let found = links.get(index(change.link)).copied();
-        refuse_if(found.is_none(), 22, place)?;
-        if let (Action::Remove, Some(link)) = (change.action, found) {
-            refuse_if(!link.present, 23, place)?;
-        }
+    for (place, change) in (1u32..).zip(case.changes.iter()) {
+        let link = links
+            .get(index(change.link))
+            .ok_or(Refusal::LinkOutside(place))?;
+        let removes = matches!(change.action, Action::Remove);
+        refuse_if(removes && !link.present, Refusal::RemoveAbsent(place))?;
         apply(links.as_mut_slice(), *change);
     }
     Ok(())
 }
 
-/// A plan: the least tree of each moment, the entry of each change, the work count, and the links after the batch.
+/// A plan: the least tree of each moment, the entry of each change, the work count, and the links after the batch. As in
+/// the planner's tables, 0 stands for no link in an entry.
 #[derive(Drop)]
 pub struct Plan {
     pub trees: Vec<Forest>,
@@ -154,39 +170,27 @@ pub struct Plan {
 impl Plan {
     /// Whether the tree of a moment has a link.
     pub fn keeps(&self, moment: usize, link: u32) -> bool {
-        match self.trees.get(moment) {
-            Some(tree) => tree.keeps(link),
-            None => false,
-        }
+        self.trees.get(moment).is_some_and(|tree| tree.keeps(link))
     }
 }
 
-/// The link that one tree has and the other has not, or 0.
-fn only_in(tree: &Forest, other: &Forest, m: usize) -> u32 {
-    let mut link = 0u32;
-    for _ in 0..m {
-        link = link.saturating_add(1);
-        if tree.keeps(link) && !other.keeps(link) {
-            return link;
-        }
-    }
-    0
+/// The entry of a change between two trees: the link that only the first has, and the one that only the second has.
+fn entry(before: &Forest, after: &Forest) -> (u32, u32) {
+    let leaving = before.only_here(after).unwrap_or(0);
+    let coming = after.only_here(before).unwrap_or(0);
+    (leaving, coming)
 }
 
 /// The plan of a batch of which no change is faulty by itself, from the tree before it.
 fn plan_from(heap: Global, case: &Case, start: Forest) -> Result<Plan, Stop> {
     let mut links = case.links.clone()?;
-    let m = links.len();
     let mut trees = Vec::new(heap);
     let mut entries = Vec::new(heap);
     let mut tree = start;
-    let mut place = 0u32;
-    for change in case.changes.iter() {
-        place = place.saturating_add(1);
+    for (place, change) in (1u32..).zip(case.changes.iter()) {
         apply(links.as_mut_slice(), *change);
-        let next = least_tree(heap, case.n, links.as_slice())?;
-        refuse_if(!next.joined, 24, place)?;
-        entries.push((only_in(&tree, &next, m), only_in(&next, &tree, m)))?;
+        let next = least_tree(heap, case.n, links.as_slice())?.ok_or(Refusal::Parted(place))?;
+        entries.push(entry(&tree, &next))?;
         trees.push(std::mem::replace(&mut tree, next))?;
     }
     trees.push(tree)?;
@@ -205,20 +209,19 @@ pub fn draw(heap: Global, case: &Case) -> Result<Plan, Stop> {
     let k = case.changes.len();
     let needs = Lent::exact(case.n as usize, case.links.len(), k);
     let lent = case.lent;
-    refuse_if(k > 65536, 20, 0)?;
+    refuse_if(k > 65536, Refusal::ChangeCount)?;
     let short = lent.start < needs.start
         || lent.entries < needs.entries
         || lent.draw_work < needs.draw_work;
-    refuse_if(short, 21, 0)?;
-    check_changes(heap, case)?;
+    refuse_if(short, Refusal::DrawTables)?;
+    check_changes(case)?;
     plan_from(heap, case, start)
 }
 
 /// The links after a draw: with all changes made if it is granted, and as they stood if it is refused.
 pub fn links_after(heap: Global, case: &Case) -> Result<Vec<Link>, AllocError> {
-    match draw(heap, case) {
-        Ok(plan) => plan.links.clone(),
-        Err(Stop::Refused(_)) => case.links.clone(),
-        Err(Stop::Memory(e)) => Err(e),
+    match answered(draw(heap, case))? {
+        Ok(plan) => Ok(plan.links),
+        Err(_) => case.links.clone(),
     }
 }

@@ -1,7 +1,7 @@
 //! Networks and changes.
 
 /// A weight: the class decides, then the cost. A weight of the cost kind has class 0.
-#[derive(Clone, Copy)]
+#[derive(Clone, Copy, PartialEq, Eq, PartialOrd, Ord)]
 pub struct Weight {
     pub class: u32,
     pub cost: u32,

@@ -1,7 +1,8 @@
 //! The least forest of some links, and the least tree of a network.
-use crate::simple::order::{Edge, Order, Ranked};
+use crate::simple::order::{Edge, Rank, Ranked};
 use crate::simple::records::{Link, index};
 use std::alloc::{AllocError, Global};
+use std::collections::BTreeSet;
 
 /// A label for each node. Nodes that are joined have one label, that of the smallest of them.
 #[derive(Drop)]
@@ -12,10 +13,7 @@ pub struct Labels {
 impl Labels {
     /// Nodes 1 to n, none joined to another.
     pub fn apart(heap: Global, n: u32) -> Result<Labels, AllocError> {
-        let mut labels = Vec::new(heap);
-        for i in 0..n {
-            labels.push(i.saturating_add(1))?;
-        }
+        let labels = (1..=n).collect(heap)?;
         Ok(Labels { labels })
     }
 
@@ -41,28 +39,21 @@ impl Labels {
 
     /// Whether all nodes are joined.
     pub fn all_joined(&self) -> bool {
-        for label in self.labels.iter() {
-            if *label != 1 {
-                return false;
-            }
-        }
-        true
+        self.labels.iter().all(|label| *label == 1)
     }
 
     /// The number of each node where joined nodes become one: they are numbered from 1 by their smallest.
     pub fn merged(&self, heap: Global) -> Result<Merged, AllocError> {
         let mut numbers: Vec<u32> = Vec::new(heap);
         let mut nodes = 0u32;
-        let mut node = 0u32;
-        for label in self.labels.iter() {
-            node = node.saturating_add(1);
-            if *label == node {
+        for (node, label) in (1u32..).zip(self.labels.iter()) {
+            let number = if *label == node {
                 nodes = nodes.saturating_add(1);
-                numbers.push(nodes)?;
+                nodes
             } else {
-                let number = numbers.get(index(*label)).copied().unwrap_or(0);
-                numbers.push(number)?;
-            }
+                numbers.get(index(*label)).copied().unwrap_or(0)
+            };
+            numbers.push(number)?;
         }
         Ok(Merged { nodes, numbers })
     }
@@ -82,77 +73,64 @@ impl Merged {
     }
 }
 
-/// A forest: for each link whether it is kept, and whether the kept ones join all nodes.
+/// A forest: the numbers of the links that are kept.
 #[derive(Drop)]
 pub struct Forest {
-    kept: Vec<bool>,
-    pub joined: bool,
+    kept: BTreeSet<u32>,
 }
 
 impl Forest {
     /// Whether the link of this number is kept.
     pub fn keeps(&self, number: u32) -> bool {
-        self.kept.get(index(number)).copied().unwrap_or(false)
+        self.kept.contains(&number)
     }
 
     /// The numbers of the kept links, ascending.
     pub fn numbers(&self, heap: Global) -> Result<Vec<u32>, AllocError> {
-        let mut numbers = Vec::new(heap);
-        let mut number = 0u32;
-        for kept in self.kept.iter() {
-            number = number.saturating_add(1);
-            if *kept {
-                numbers.push(number)?;
-            }
-        }
-        Ok(numbers)
+        self.kept.iter().copied().collect(heap)
+    }
+
+    /// The first link that this forest keeps and the other does not.
+    pub fn only_here(&self, other: &Forest) -> Option<u32> {
+        self.kept.difference(&other.kept).next().copied()
     }
 }
 
-/// The least forest: goes through links in order and keeps one exactly if the kept ones do not yet join its ends. Link
-/// numbers go up to m.
-pub fn least_forest(heap: Global, n: u32, m: usize, order: &Order) -> Result<Forest, AllocError> {
+/// The least forest: goes through links in order and keeps one exactly if the kept ones do not yet join its ends.
+pub fn least_forest(heap: Global, n: u32, mut links: Vec<Ranked>) -> Result<Forest, AllocError> {
+    links.sort_unstable();
     let mut labels = Labels::apart(heap, n)?;
-    let mut kept = vec![in heap; false; m]?;
-    for item in order.items() {
-        let edge = item.edge;
+    let mut kept = BTreeSet::new(heap);
+    for link in links.iter() {
+        let edge = link.edge;
         if labels.join(edge.a, edge.b) {
-            if let Some(flag) = kept.get_mut(index(edge.number)) {
-                *flag = true;
-            }
+            kept.insert(edge.number)?;
         }
     }
-    Ok(Forest {
-        kept,
-        joined: labels.all_joined(),
-    })
+    Ok(Forest { kept })
 }
 
-/// The least tree of a network: the least forest of its present links.
-pub fn least_tree(heap: Global, n: u32, links: &[Link]) -> Result<Forest, AllocError> {
-    let mut order = Order::new(heap);
-    let mut number = 0u32;
-    for link in links {
-        number = number.saturating_add(1);
-        if link.present {
-            let edge = Edge {
-                number,
-                a: link.a,
-                b: link.b,
-            };
-            order.add(Ranked::standing(edge, *link))?;
-        }
+/// The least tree of a network, the least forest of its present links, if these join all nodes.
+pub fn least_tree(heap: Global, n: u32, links: &[Link]) -> Result<Option<Forest>, AllocError> {
+    if !joined(heap, n, links)? {
+        return Ok(None);
     }
-    least_forest(heap, n, links.len(), &order)
+    let present = (1u32..)
+        .zip(links)
+        .filter(|(_, link)| link.present)
+        .map(|(number, link)| Ranked {
+            rank: Rank::from(*link),
+            edge: Edge::of(number, link),
+        })
+        .collect(heap)?;
+    Ok(Some(least_forest(heap, n, present)?))
 }
 
 /// Whether the present links of a network join all its nodes.
 pub fn joined(heap: Global, n: u32, links: &[Link]) -> Result<bool, AllocError> {
     let mut labels = Labels::apart(heap, n)?;
-    for link in links {
-        if link.present {
-            labels.join(link.a, link.b);
-        }
+    for link in links.iter().filter(|link| link.present) {
+        labels.join(link.a, link.b);
     }
     Ok(labels.all_joined())
 }

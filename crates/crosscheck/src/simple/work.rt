@@ -1,5 +1,5 @@
 //! Blocks of changes, and the work count: the links that blocks receive, summed over all blocks of a batch.
-use crate::simple::order::{Edge, Order, Ranked};
+use crate::simple::order::{Edge, Rank, Ranked};
 use crate::simple::records::{Change, Link, apply, index};
 use crate::simple::tree::{Labels, least_forest};
 use std::alloc::{AllocError, Global};
@@ -11,89 +11,75 @@ struct Graph {
     edges: Vec<Edge>,
 }
 
-/// Whether one of the changes names this link.
-fn names(changes: &[Change], number: u32) -> bool {
-    for change in changes {
-        if change.link == number {
-            return true;
-        }
-    }
-    false
-}
-
 impl Graph {
     /// The graph of a whole network, absent links included.
     fn whole(heap: Global, n: u32, links: &[Link]) -> Result<Graph, AllocError> {
-        let mut edges = Vec::new(heap);
-        let mut number = 0u32;
-        for link in links {
-            number = number.saturating_add(1);
-            edges.push(Edge {
-                number,
-                a: link.a,
-                b: link.b,
-            })?;
-        }
+        let edges = (1u32..)
+            .zip(links)
+            .map(|(number, link)| Edge::of(number, link))
+            .collect(heap)?;
         Ok(Graph { nodes: n, edges })
     }
+}
 
-    /// The links that the changes do not name, in order as they stand.
-    fn others(
-        &self,
-        heap: Global,
-        links: &[Link],
-        changes: &[Change],
-    ) -> Result<Order, AllocError> {
-        let mut order = Order::new(heap);
-        for edge in self.edges.iter() {
-            if !names(changes, edge.number) {
-                if let Some(link) = links.get(index(edge.number)) {
-                    order.add(Ranked::standing(*edge, *link))?;
-                }
-            }
-        }
-        Ok(order)
+/// A block of changes, and the links as they stand before it.
+#[derive(Clone, Copy)]
+struct Block<'a> {
+    heap: Global,
+    links: &'a [Link],
+    changes: &'a [Change],
+}
+
+impl Block<'_> {
+    /// Whether one of the changes names this link.
+    fn names(&self, number: u32) -> bool {
+        self.changes.iter().any(|change| change.link == number)
     }
 
-    /// The named links, and the least forest of all others.
-    fn reduced(
-        &self,
-        heap: Global,
-        links: &[Link],
-        changes: &[Change],
-    ) -> Result<Graph, AllocError> {
-        let others = self.others(heap, links, changes)?;
-        let forest = least_forest(heap, self.nodes, links.len(), &others)?;
-        let mut edges = Vec::new(heap);
-        for edge in self.edges.iter() {
-            if names(changes, edge.number) || forest.keeps(edge.number) {
-                edges.push(*edge)?;
-            }
-        }
+    /// The links of a graph that the changes do not name, as they stand.
+    fn others(&self, graph: &Graph) -> Result<Vec<Ranked>, AllocError> {
+        graph
+            .edges
+            .iter()
+            .filter(|edge| !self.names(edge.number))
+            .filter_map(|edge| {
+                self.links.get(index(edge.number)).map(|link| Ranked {
+                    rank: Rank::from(*link),
+                    edge: *edge,
+                })
+            })
+            .collect(self.heap)
+    }
+
+    /// The named links of a graph, and the least forest of all others.
+    fn reduced(&self, graph: &Graph) -> Result<Graph, AllocError> {
+        let forest = least_forest(self.heap, graph.nodes, self.others(graph)?)?;
+        let edges = graph
+            .edges
+            .iter()
+            .copied()
+            .filter(|edge| self.names(edge.number) || forest.keeps(edge.number))
+            .collect(self.heap)?;
         Ok(Graph {
-            nodes: self.nodes,
+            nodes: graph.nodes,
             edges,
         })
     }
 
-    /// All nodes, with the ends of each link joined that is not named and is in the least forest with the named ones
-    /// first.
-    fn merging(
-        &self,
-        heap: Global,
-        links: &[Link],
-        changes: &[Change],
-    ) -> Result<Labels, AllocError> {
-        let mut order = self.others(heap, links, changes)?;
-        for edge in self.edges.iter() {
-            if names(changes, edge.number) {
-                order.add(Ranked::named(*edge))?;
-            }
+    /// All nodes of a graph, with the ends of each link joined that is not named and is in the least forest with the named
+    /// ones first.
+    fn merging(&self, graph: &Graph) -> Result<Labels, AllocError> {
+        let mut order = self.others(graph)?;
+        for edge in graph.edges.iter().filter(|edge| self.names(edge.number)) {
+            order.push(Ranked {
+                rank: Rank::Named,
+                edge: *edge,
+            })?;
         }
-        let forest = least_forest(heap, self.nodes, links.len(), &order)?;
-        let mut labels = Labels::apart(heap, self.nodes)?;
-        for edge in self.edges.iter() {
-            if forest.keeps(edge.number) && !names(changes, edge.number) {
+        let forest = least_forest(self.heap, graph.nodes, order)?;
+        let mut labels = Labels::apart(self.heap, graph.nodes)?;
+        for edge in graph.edges.iter() {
+            if forest.keeps(edge.number) && !self.names(edge.number) {
                 labels.join(edge.a, edge.b);
             }
         }
@@ -101,37 +87,28 @@ impl Graph {
     }
 
     /// The same links on merged nodes.
-    fn contracted(
-        &self,
-        heap: Global,
-        links: &[Link],
-        changes: &[Change],
-    ) -> Result<Graph, AllocError> {
-        let merged = self.merging(heap, links, changes)?.merged(heap)?;
-        let mut edges = Vec::new(heap);
-        for edge in self.edges.iter() {
-            edges.push(Edge {
+    fn contracted(&self, graph: &Graph) -> Result<Graph, AllocError> {
+        let merged = self.merging(graph)?.merged(self.heap)?;
+        let edges = graph
+            .edges
+            .iter()
+            .map(|edge| Edge {
                 number: edge.number,
                 a: merged.number(edge.a),
                 b: merged.number(edge.b),
-            })?;
-        }
+            })
+            .collect(self.heap)?;
         Ok(Graph {
             nodes: merged.nodes,
             edges,
         })
     }
 
-    /// What both halves of a block receive.
-    fn thinned(
-        &self,
-        heap: Global,
-        links: &[Link],
-        changes: &[Change],
-    ) -> Result<Graph, AllocError> {
-        let reduced = self.reduced(heap, links, changes)?;
-        let contracted = reduced.contracted(heap, links, changes)?;
-        contracted.reduced(heap, links, changes)
+    /// What both halves of the block receive, of the graph that it receives.
+    fn thinned(&self, graph: &Graph) -> Result<Graph, AllocError> {
+        let reduced = self.reduced(graph)?;
+        let contracted = self.contracted(&reduced)?;
+        self.reduced(&contracted)
     }
 }
 
@@ -150,7 +127,12 @@ fn block_work(
         }
         return Ok(received);
     }
-    let thinned = graph.thinned(heap, links, changes)?;
+    let block = Block {
+        heap,
+        links,
+        changes,
+    };
+    let thinned = block.thinned(graph)?;
     let (first, rest) = changes.split_at(changes.len() - changes.len() / 2);
     let one = block_work(heap, links, &thinned, first)?;
     let other = block_work(heap, links, &thinned, rest)?;
