@@ -18,7 +18,7 @@ use Rattle.plant_tables.specs.File.{File, then, none, blank, with_link, with_cha
 use Rattle.plant_text.specs.Body.{body}
 use Rattle.plant_tables.specs.Limits.{max_bytes}
 use Rattle.plant_lines.specs.Line.{line_at}
-use Rattle.plant_text.specs.Plant.{Whole, costs, classes, file_of, lacks_head, lines, opened, headed}
+use Rattle.plant_text.specs.Plant.{Whole, costs, classes, lacks_head, lines, opened, headed}
 use Rattle.text_words.specs.Split.{parts}
 use Rattle.plant_texts.specs.Laws.{joined_by, ReadsBack}
 use Rattle.plant_texts.specs.Written.{row, link_rows, change_row, change_rows, rows, cost_spelled, class_spelled, written}
@@ -160,7 +160,6 @@ lines-back (l ∷ m ∷ ls) p h =
     opened-back (m ∷ ls) a.0 p a.2 ∙ ap (λ v. (v ++ 10 ∷ []) ++ tail) is ∙ append_assoc l (10 ∷ []) tail
 
 pub reads-back : ReadsBack
-unfolding file_of
 reads-back text plant h =
     let has = cond-not (ltb max_bytes (length text)) (cond (lacks_head text) (Err (OutOfPlace 1)) (lines (parts 10 text))) (OverCount 0) plant h in
     let all = cond-not (lacks_head text) (lines (parts 10 text)) (OutOfPlace 1) plant has in

@@ -124,5 +124,4 @@ module _ {W : Type 0} (made : List ℕ → Option W) (spelled : W → List ℕ) 
       item-line s.0 s.1 x s.4 ∙ ap (λ bs. code s.0 ∷ bs) (numbers_after ws s.1 s.3) ∙ ap (λ v. v ++ after ws) (sym (letter-word w s.0 s.2)) ∙ sym (joined-after w ws)
 
   pub line-back : (i : ℕ) (l : List ℕ) (x : Item W) → line_at made i l ≡ Ok x → line_for x ≡ l
-  unfolding line_at
   line-back i l x h = shape-line (parts 32 l) x (some-ok (shape made (parts 32 l)) (Malformed i) x (sym h)) ∙ parts_join 32 l
