@@ -24,20 +24,17 @@ unfolding value_from
 value_read n [] h l = cond-true _ _ _ (lt-ltb n 4294967296 l)
 value_read n (c ∷ cs) h l = let p = and_parts (is_ascii_digit c) (all_ascii_digits cs) h in cond-true _ _ _ p.0 ∙ value_read (n * 10 + (c - 48)) cs p.1 l
 
-some-none : (n : ℕ) {P : Type 0} → None ≡ Some n → P
-some-none n e = absurd (let z : ◌≡◌ {A = ℕ} 0 1 = cc in omega arith)
-
 value-told : (n : ℕ) (ds : List ℕ) (v : ℕ) → value_from n ds ≡ Some v → (all_ascii_digits ds ≡ true) × (read_on n ds ≡ v) × (v < 4294967296)
 unfolding value_from
 value-told n [] v h =
     ⊎_elim
     (λ t. let e : n ≡ v = cc (cond-true (ltb n 4294967296) (Some n) None t) in (refl, e, omega (arith, e, ltb-true n 4294967296 t)))
-    (λ f. some-none v (sym (cond-false (ltb n 4294967296) (Some n) None f) ∙ h))
+    (λ f. cc (sym (cond-false (ltb n 4294967296) (Some n) None f) ∙ h))
     (cases_Bool (ltb n 4294967296))
 value-told n (c ∷ cs) v h =
     ⊎_elim
     (λ t. let r = value-told (n * 10 + (c - 48)) cs v (sym (cond-true (is_ascii_digit c) _ None t) ∙ h) in (and_from (is_ascii_digit c) (all_ascii_digits cs) t r.0, r.1, r.2))
-    (λ f. some-none v (sym (cond-false (is_ascii_digit c) (value_from (n * 10 + (c - 48)) cs) None f) ∙ h))
+    (λ f. cc (sym (cond-false (is_ascii_digit c) (value_from (n * 10 + (c - 48)) cs) None f) ∙ h))
     (cases_Bool (is_ascii_digit c))
 
 numeral-is : (bs : List ℕ) → 0 < length bs → (1 < length bs → get_or bs 0 0 ≡ 48 → ⊥) → numeral bs ≡ value_from 0 bs
@@ -46,11 +43,11 @@ numeral-is (b ∷ []) h e = refl
 numeral-is (b ∷ c ∷ bs) h e = cond-false _ _ _ (ne_eqb b 48 (e (omega arith)))
 
 numeral-told : (w : List ℕ) (n : ℕ) → numeral w ≡ Some n → (0 < length w) × (get_or w 0 0 ≡ 48 → length w ≡ 1) × (value_from 0 w ≡ Some n)
-numeral-told [] n h = some-none n h
+numeral-told [] n h = cc
 numeral-told (b ∷ []) n h = (omega arith, λ _. refl, h)
 numeral-told (b ∷ c ∷ bs) n h =
     ⊎_elim
-    (λ t. some-none n (sym (cond-true (eqb b 48) None (value_from 0 (b ∷ c ∷ bs)) t) ∙ h))
+    (λ t. cc (sym (cond-true (eqb b 48) None (value_from 0 (b ∷ c ∷ bs)) t) ∙ h))
     (λ f. (omega arith, λ e. absurd (eqb-false b 48 f e), sym (cond-false (eqb b 48) None (value_from 0 (b ∷ c ∷ bs)) f) ∙ h))
     (cases_Bool (eqb b 48))
 
