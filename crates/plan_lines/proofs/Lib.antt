@@ -1,2 +1,1 @@
 mod Printing
-mod Reporting

@@ -5,4 +5,4 @@ mod output;
 mod refusal;
 
 pub use output::{EntryLine, TreeLine, WorkLine};
-pub use refusal::{Refusal, draw_refusal, open_refusal, text_refusal};
+pub use refusal::{Refusal, draw_refusal, open_refusal};

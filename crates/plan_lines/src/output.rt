@@ -36,9 +36,11 @@ impl fmt::Display for EntryLine {
     ghost output = { λ x. Some (entry_line x.change x.leaving x.coming) };
 
     fn fmt<W: fmt::Write>(&self, f: &mut fmt::Formatter<W>) -> fmt::Result {
-        let change = self.change;
-        let leaving = self.leaving;
-        let coming = self.coming;
+        let EntryLine {
+            change,
+            leaving,
+            coming,
+        } = *self;
         write!(f, "{change} {leaving} {coming}")
     }
 }
@@ -47,7 +49,6 @@ impl fmt::Display for WorkLine {
     ghost output = { λ x. Some (work_line x.0) };
 
     fn fmt<W: fmt::Write>(&self, f: &mut fmt::Formatter<W>) -> fmt::Result {
-        let work = self.0;
-        write!(f, "WORK {work}")
+        write!(f, "WORK {}", self.0)
     }
 }

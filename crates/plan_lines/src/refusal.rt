@@ -5,8 +5,8 @@ ghost use Rattle.plan_lines.specs.Refusal.{refusal_line, line_of, open_line, tex
 use faults::{DrawFault, Fault, OpenFault, TextFault};
 use std::fmt;
 
-/// A report, and the line of the text that it is about; 0 where it is about no line.
-#[derive(Clone, Copy)]
+/// A report, and the line of the text that it is about; 0, as it is printed, where it is about no line.
+#[derive(Clone, Copy, PartialEq, Eq, Debug)]
 pub struct Refusal {
     pub report: Fault,
     pub line: u32,
@@ -16,32 +16,32 @@ impl fmt::Display for Refusal {
     ghost output = { λ x. Some (refusal_line x) };
 
     fn fmt<W: fmt::Write>(&self, f: &mut fmt::Formatter<W>) -> fmt::Result {
-        let code = self.report.code;
-        let place = self.report.place;
+        let Fault { code, place, .. } = self.report;
         let line = self.line;
         write!(f, "REFUSED {code} {place} {line}")
     }
 }
 
 /// The refusal of a text.
-pub fn text_refusal(fault: TextFault) -> Refusal
-    ensures { result ≡ text_refusal fault }
-{
-    let report = Fault::from(fault);
-    let line = match fault {
-        TextFault::Malformed(line) => line,
-        TextFault::OutOfPlace(line) => line,
-        TextFault::OverCount(line) => line,
-    };
-    Refusal { report, line }
+impl From<TextFault> for Refusal {
+    ghost from_gives = { λ f r. r ≡ text_refusal f };
+
+    fn from(fault: TextFault) -> Refusal {
+        let line = match fault {
+            TextFault::Malformed(line) | TextFault::OutOfPlace(line) | TextFault::OverCount(line) =>
+                line,
+        };
+        let report = fault.into();
+        Refusal { report, line }
+    }
 }
 
 /// The refusal of an open, where `link_lines` has the line of each link.
 pub fn open_refusal(fault: OpenFault, link_lines: &[u32]) -> Refusal
     ensures { result ≡ open_refusal link_lines.now fault }
 {
-    let report = Fault::from(fault);
     let line = open_line(fault, link_lines);
+    let report = fault.into();
     Refusal { report, line }
 }
 
@@ -49,14 +49,14 @@ pub fn open_refusal(fault: OpenFault, link_lines: &[u32]) -> Refusal
 pub fn draw_refusal(fault: DrawFault, change_lines: &[u32], link_lines: &[u32]) -> Refusal
     ensures { result ≡ draw_refusal change_lines.now link_lines.now fault }
 {
-    let report = Fault::from(fault);
     let line = match fault {
         DrawFault::NotOpened(open) => open_line(open, link_lines),
         DrawFault::ChangeCount | DrawFault::ShortTables => 0,
-        DrawFault::LinkOutside(change) => line_of(change_lines, change),
-        DrawFault::RemoveAbsent(change) => line_of(change_lines, change),
-        DrawFault::Parted(change) => line_of(change_lines, change),
+        DrawFault::LinkOutside(change)
+        | DrawFault::RemoveAbsent(change)
+        | DrawFault::Parted(change) => line_of(change_lines, change),
     };
+    let report = fault.into();
     Refusal { report, line }
 }
 
@@ -66,8 +66,7 @@ fn open_line(fault: OpenFault, link_lines: &[u32]) -> u32
 {
     match fault {
         OpenFault::NodeCount => 1,
-        OpenFault::EndOutside(link) => line_of(link_lines, link),
-        OpenFault::SameEnds(link) => line_of(link_lines, link),
+        OpenFault::EndOutside(link) | OpenFault::SameEnds(link) => line_of(link_lines, link),
         OpenFault::LinkCount | OpenFault::ShortTables | OpenFault::NotJoined => 0,
     }
 }
@@ -76,9 +75,7 @@ fn open_line(fault: OpenFault, link_lines: &[u32]) -> u32
 fn line_of(lines: &[u32], k: u32) -> u32
     ensures { result ≡ line_of lines.now k }
 {
-    let k = k as usize;
-    if k == 0 || k > lines.len() {
-        return 0;
-    }
-    lines[k - 1]
+    k.checked_sub(1)
+        .and_then(|i| lines.get(i as usize).copied())
+        .unwrap_or(0)
 }

@@ -1,15 +1,12 @@
 -- What the exit of a `?` hands on, and answers that come from an Option.
 use Rattle.std.proofs.Common.{◌≡◌, IsErrAnd, Some, None, Ok, Err, Option, Result, refl, ap, ◌∙◌}
 use Rattle.std.specs.Option.{ok_or}
-use Rattle.std.specs.Result.{result_and, result_map_both}
+use Rattle.std.specs.Result.{result_and}
 
 -- a result that is the fault e
-pub is_err : {X E : Type 0} (r : Result X E) (e : E) → IsErrAnd r (λ y. y ≡ e) → r ≡ Err e
+is_err : {X E : Type 0} (r : Result X E) (e : E) → IsErrAnd r (λ y. y ≡ e) → r ≡ Err e
 is_err (Ok x) e h = absurd h
 is_err (Err y) e h = ap Err h
-
-pub mapped-err : {X Y E : Type 0} (f : X → Y) (r : Result X E) (s : Result Y E) (e : E) → IsErrAnd r (λ y. y ≡ e) → Err e ≡ s → result_map_both f (λ x. x) r ≡ s
-mapped-err f r s e h q = ap (result_map_both f (λ x. x)) (is_err r e h) ∙ q
 
 pub and-err : {X Y E : Type 0} (x : Result Y E) (r : Result X E) (s : Result Y E) (e : E) → IsErrAnd r (λ y. y ≡ e) → Err e ≡ s → result_and r x ≡ s
 and-err x r s e h q = ap (λ y. result_and y x) (is_err r e h) ∙ q

@@ -69,5 +69,5 @@ module _ {W : Type 0} (made : List ℕ → Option W) where
   shape (w ∷ ws) = item_from (letter_word w) (numbers ws)
 
   -- what line i tells, its words split by one space (byte 32) each; else it is malformed
-  unfoldable pub line_at : ℕ → List ℕ → Result (Item W) TextFault
+  abbrev pub line_at : ℕ → List ℕ → Result (Item W) TextFault
   line_at i bs = ok_or (shape (parts 32 bs)) (Malformed i)

@@ -37,12 +37,9 @@ fn read_numbers(numbers: &mut Vec<u32>, text: &[u8], line: u32) -> Result<(), Te
     ensures room { vec_capacity numbers.new ≡ vec_capacity numbers.old }
 {
     numbers.clear();
-    let mut rest = text;
-    while let Some((word, after)) = cut(rest, b' ') {
+    for word in text.split(|b| *b == b' ') {
         numbers.push_reserved(Token::Word(word, line).number()?);
-        rest = after;
     }
-    numbers.push_reserved(Token::Word(rest, line).number()?);
     Ok(())
 }
 

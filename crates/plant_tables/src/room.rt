@@ -1,6 +1,7 @@
 //! The memory that a reading needs, taken once, before the first byte is read.
-ghost use Rattle.std.specs.Prelude.{IfOk};
-ghost use Rattle.plant_tables.specs.Room.{Reserved, Ready};
+ghost use Rattle.std.specs.Prelude.{◌≤◌, IfOk, vec_capacity};
+ghost use Rattle.plant_tables.specs.Limits.{max_bytes};
+ghost use Rattle.plant_tables.specs.Room.{Reserved};
 
 use crate::plant::Tables;
 use std::alloc::{AllocError, Global};
@@ -15,19 +16,20 @@ pub const MAX_LINKS: usize = 64;
 /// The most changes that a text may tell.
 pub const MAX_CHANGES: usize = 128;
 
-/// Room for the numbers of one line, and for a plant of either kind of weights.
+/// Room for the numbers of any line, and for a plant of either kind of weights, still empty.
 #[derive(Drop)]
 pub struct Room {
     pub numbers: Vec<u32>,
     pub costs: Tables<Cost>,
     pub classes: Tables<Class>,
+    pub ghost numbers_room: { max_bytes ≤ vec_capacity numbers },
+    pub ghost costs_empty: { Reserved costs },
+    pub ghost classes_empty: { Reserved classes },
 }
 
 impl Room {
     /// Takes all the memory that reading any text can need. Nothing else of a reading asks for memory.
-    pub fn reserve(heap: Global) -> Result<Room, AllocError>
-        ensures { IfOk result Ready }
-    {
+    pub fn reserve(heap: Global) -> Result<Room, AllocError> {
         Ok(Room {
             numbers: Vec::with_capacity(heap, MAX_BYTES)?,
             costs: Tables::reserve(heap)?,

@@ -6,7 +6,7 @@ use Rattle.plant_lines.specs.declared.item.Item.{Item}
 use Rattle.plant_tables.specs.File.{File, then, placed}
 use Rattle.plant_text.specs.Body.{body}
 use Rattle.plant_lines.specs.Line.{line_at}
-use Rattle.text_words.specs.Split.{parts}
+use Rattle.text_words.specs.Split.{parts, Cut}
 use Rattle.text_words.proofs.Cutting.{parts-some}
 
 module _ {W : Type 0} (made : List ℕ → Option W) where
@@ -16,11 +16,11 @@ module _ {W : Type 0} (made : List ℕ → Option W) where
       ap (λ r. body made f i (l ∷ r)) e ∙ ap (λ r. then (then (line_at made i l) (placed f i)) (λ g. body made g (suc i) r)) (sym e)
 
   -- One line, and the bytes after it.
-  module _ (f : File W) (i : ℕ) (rest l after : List ℕ) (split : parts 10 rest ≡ l ∷ parts 10 after) where
+  module _ (f : File W) (i : ℕ) (rest l after : List ℕ) (cut : Cut 10 rest l after) where
     body-step : body made f i (parts 10 rest) ≡ then (then (line_at made i l) (placed f i)) (λ g. body made g (suc i) (parts 10 after))
     body-step =
         let s = parts-some 10 after in
-        ap (body made f i) split ∙ body-two f i l s.0 (parts 10 after) s.1 s.2
+        ap (body made f i) cut.split ∙ body-two f i l s.0 (parts 10 after) s.1 s.2
 
     pub body-line : (e : TextFault) → Err e ≡ line_at made i l → Err e ≡ body made f i (parts 10 rest)
     body-line e h = sym (body-step ∙ ap (λ o. then (then o (placed f i)) (λ g. body made g (suc i) (parts 10 after))) (sym h))

@@ -64,5 +64,5 @@ lines (l ∷ m ∷ ls) = then (line_at cost_from 1 l) (opened (m ∷ ls))
 
 -- What a text tells, or why it is refused: first by its number of bytes, then by what line 1 starts with, then line by
 -- line.
-unfoldable pub file_of : List ℕ → Result Whole TextFault
+abbrev pub file_of : List ℕ → Result Whole TextFault
 file_of bs = cond (nat_lt max_bytes (length bs)) (Err (OverCount 0)) (cond (lacks_head bs) (Err (OutOfPlace 1)) (lines (parts 10 bs)))

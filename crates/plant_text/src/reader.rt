@@ -1,10 +1,10 @@
 //! The whole text.
-ghost use Rattle.std.specs.Prelude.{◌≡◌, ◌+◌, ◌<◌, ◌≤◌, length, vec_capacity};
-ghost use Rattle.std.specs.Result.{result_map_both};
+ghost use Rattle.std.specs.Prelude.{◌≡◌, ◌<◌, ◌≤◌, Ok, length, vec_capacity};
+ghost use Rattle.std.specs.Result.{result_and, result_map_both};
 ghost use Rattle.plant_tables.specs.File.{seen, blank};
 ghost use Rattle.plant_text.specs.Body.{body};
 ghost use Rattle.plant_text.specs.Plant.{whole, file_of, headed, lacks_head};
-ghost use Rattle.plant_tables.specs.Room.{Ready, Reserved};
+ghost use Rattle.plant_tables.specs.Room.{Reserved};
 ghost use Rattle.text_words.specs.Split.{parts};
 
 use crate::plant::Plant;
@@ -12,15 +12,14 @@ use faults::TextFault;
 use plant_lines::{Item, Kind, read_line};
 use plant_tables::{MAX_BYTES, Room, Tables};
 use text_words::{Letter, cut};
-use weights::Weight;
+use weights::{Cost, Weight};
 
 /// The most nodes that a text may tell.
 const MAX_NODES: u32 = 32;
 
 /// The plant that a text tells, or why it is refused. All memory that it needs is in the room already, so that it
 /// always answers what the format says of this text.
-pub fn read_plant(room: Room, input: &[u8]) -> Result<Plant, TextFault>
-    requires { Ready room }
+pub fn read_plant(mut room: Room, input: &[u8]) -> Result<Plant, TextFault>
     ensures { result_map_both whole (λ e. e) result ≡ file_of input.now }
 {
     if input.len() > MAX_BYTES {
@@ -32,8 +31,7 @@ pub fn read_plant(room: Room, input: &[u8]) -> Result<Plant, TextFault>
     let Some((first, rest)) = cut(input, b'\n') else {
         return Err(TextFault::Malformed(1));
     };
-    let mut room = room;
-    match read_line::<weights::Cost>(&mut room.numbers, first, 1)? {
+    match read_line::<Cost>(&mut room.numbers, first, 1)? {
         Item::Head(kind, n) => read_rest(room, kind, n, rest),
         Item::Link(_, _) | Item::Change(_) => Err(TextFault::OutOfPlace(1)),
     }
@@ -46,16 +44,15 @@ fn lacks_head(input: &[u8]) -> bool
     let [first, ..] = input else {
         return true;
     };
-    match Letter::of(char::from(*first)) {
-        Some(Letter::Link | Letter::Set | Letter::Remove | Letter::Flip) => true,
-        Some(Letter::Costs | Letter::Classes) | None => false,
-    }
+    matches!(
+        Letter::try_from(char::from(*first)),
+        Ok(Letter::Link | Letter::Set | Letter::Remove | Letter::Flip)
+    )
 }
 
 /// The plant of this kind with n nodes and these lines.
 fn read_rest(room: Room, kind: Kind, n: u32, text: &[u8]) -> Result<Plant, TextFault>
-    requires ready { Ready room }
-    requires short { length text.now < 4096 }
+    requires { length text.now < 4096 }
     ensures { result_map_both whole (λ e. e) result ≡ headed (parts 10 text.now) kind n }
 {
     if n > MAX_NODES {
@@ -67,13 +64,8 @@ fn read_rest(room: Room, kind: Kind, n: u32, text: &[u8]) -> Result<Plant, TextF
         classes,
     } = room;
     match kind {
-        Kind::Cost => Ok(Plant::Costs(read_body::<weights::Cost>(costs, &mut numbers, n, text)?)),
-        Kind::Class => Ok(Plant::Classes(read_body::<weights::Class>(
-            classes,
-            &mut numbers,
-            n,
-            text,
-        )?)),
+        Kind::Cost => Ok(Plant::Costs(read_body(costs, &mut numbers, n, text)?)),
+        Kind::Class => Ok(Plant::Classes(read_body(classes, &mut numbers, n, text)?)),
     }
 }
 
@@ -90,16 +82,32 @@ fn read_body<W: Weight>(
     ensures { result_map_both seen (λ e. e) result ≡ body W.Weight.made (blank n) 2 (parts 10 text.now) }
 {
     tables.n = n;
+    read_rows(&mut tables, numbers, text)?;
+    Ok(tables)
+}
+
+/// The lines after the first, each with its number.
+fn read_rows<W: Weight>(
+    tables: &mut Tables<W>,
+    numbers: &mut Vec<u32>,
+    text: &[u8],
+) -> Result<(), TextFault>
+    requires room { 4096 ≤ vec_capacity numbers.old }
+    requires short { length text.now < 4096 }
+    ensures { result_and result (Ok (seen tables.new)) ≡ body W.Weight.made (seen tables.old) 2 (parts 10 text.now) }
+{
     let mut rest = text;
-    let mut line: u32 = 2;
-    while let Some((front, after)) = cut(rest, b'\n') {
-        let item = read_line(numbers, front, line)?;
+    // Counted by hand: a `for` over a slice's split gets no proof in a generic function.
+    let mut line = 2;
+    while let Some((row, after)) = cut(rest, b'\n') {
+        let item = read_line(numbers, row, line)?;
         tables.place(item, line)?;
         rest = after;
         line += 1;
     }
-    if !rest.is_empty() {
-        return Err(TextFault::Malformed(line));
+    if rest.is_empty() {
+        Ok(())
+    } else {
+        Err(TextFault::Malformed(line))
     }
-    Ok(tables)
 }

@@ -1,6 +1,7 @@
 -- A text that was read, written out again.
 use Rattle.std.proofs.Common.{◌≡◌, ℕ, suc, ◌+◌, Bool, true, false, cond, ltb, leb, List, [], ◌∷◌, ◌++◌, length, Some, Ok, Err, Option, Result, sym, refl, ap, ◌∙◌, subst, arith}
 use Rattle.std.proofs.lemmas.List.{append-nil, append_assoc, length_push}
+use Rattle.std.proofs.lemmas.Option.{same_Some}
 use Rattle.faults.specs.declared.TextFault.{TextFault}
 use Rattle.faults.specs.declared.TextFault.TheVariants.{OutOfPlace, OverCount}
 use Rattle.network.specs.declared.types.Change.{Change}
@@ -18,15 +19,12 @@ use Rattle.plant_tables.specs.File.{File, then, none, blank, with_link, with_cha
 use Rattle.plant_text.specs.Body.{body}
 use Rattle.plant_tables.specs.Limits.{max_bytes}
 use Rattle.plant_lines.specs.Line.{line_at}
-use Rattle.plant_text.specs.Plant.{Whole, costs, classes, file_of, lacks_head, lines, opened, headed}
+use Rattle.plant_text.specs.Plant.{Whole, costs, classes, lacks_head, lines, opened, headed}
 use Rattle.text_words.specs.Split.{parts}
 use Rattle.plant_texts.specs.Laws.{joined_by, ReadsBack}
 use Rattle.plant_texts.specs.Written.{row, link_rows, change_row, change_rows, rows, cost_spelled, class_spelled, written}
-use Rattle.plant_texts.proofs.Lines.{none-some, some_same, line_for, line-back}
+use Rattle.plant_texts.proofs.Lines.{line_for, line-back}
 use Rattle.plant_texts.proofs.Writing.{parts_join}
-
-err-ok : {X : Type 0} {P : Type 0} (e : TextFault) (x : X) → Err e ≡ Ok x → P
-err-ok e x h = absurd (let z : ◌≡◌ {A = ℕ} 0 1 = cc in omega arith)
 
 ok_same : {X : Type 0} (x y : X) → ◌≡◌ {A = Result X TextFault} (Ok x) (Ok y) → x ≡ y
 ok_same x y h = cc
@@ -34,15 +32,15 @@ ok_same x y h = cc
 -- both steps of a granted sequence are granted
 then_ok : {X Y : Type 0} (r : Result X TextFault) (f : X → Result Y TextFault) (y : Y) → then r f ≡ Ok y → (x : X) × (r ≡ Ok x) × (f x ≡ Ok y)
 then_ok (Ok x) f y h = (x, refl, h)
-then_ok (Err e) f y h = err-ok e y h
+then_ok (Err e) f y h = cc
 
 -- a test that a grant has passed
 cond-ok : {X : Type 0} (b : Bool) (r : Result X TextFault) (e : TextFault) (x : X) → cond b r (Err e) ≡ Ok x → (b ≡ true) × (r ≡ Ok x)
 cond-ok true r e x h = (refl, h)
-cond-ok false r e x h = err-ok e x h
+cond-ok false r e x h = cc
 
 cond-not : {X : Type 0} (b : Bool) (r : Result X TextFault) (e : TextFault) (x : X) → cond b (Err e) r ≡ Ok x → r ≡ Ok x
-cond-not true r e x h = err-ok e x h
+cond-not true r e x h = cc
 cond-not false r e x h = h
 
 none-nil : {X : Type 0} (xs : List X) → none xs ≡ true → xs ≡ []
@@ -80,7 +78,7 @@ module _ {W : Type 0} (made : List ℕ → Option W) (spelled : W → List ℕ) 
   change-line (change.Flip k) = refl
 
   placed-more : (f : File W) (i : ℕ) (x : Item W) (g : File W) → length f.ends ≡ length f.links → placed f i x ≡ Ok g → Grown f (line_for made spelled back x ++ 10 ∷ []) g
-  placed-more f i (item.Head k n) g h p = err-ok _ g p
+  placed-more f i (item.Head k n) g h p = cc
   placed-more f i (item.Link e w) g h p =
       let a = cond-ok (none f.changes) _ _ g p in
       let b = cond-ok (ltb (length f.links) 64) _ _ g a.1 in
@@ -120,19 +118,19 @@ module _ {W : Type 0} (made : List ℕ → Option W) (spelled : W → List ℕ) 
       }
 
 cost-back : (ns : List ℕ) (w : Cost) → cost_from ns ≡ Some w → cost_spelled w ≡ ns
-cost-back [] w h = none-some w h
-cost-back (x ∷ []) w h = ap cost_spelled (sym (some_same _ w h))
-cost-back (x ∷ y ∷ xs) w h = none-some w h
+cost-back [] w h = cc
+cost-back (x ∷ []) w h = ap cost_spelled (sym (same_Some _ w h))
+cost-back (x ∷ y ∷ xs) w h = cc
 
 graded-back : (k c : ℕ) (t : Bool) (e : leb k 7 ≡ t) (w : Class) → graded k c t e ≡ Some w → class_spelled w ≡ k ∷ c ∷ []
-graded-back k c true e w h = ap class_spelled (sym (some_same _ w h))
-graded-back k c false e w h = none-some w h
+graded-back k c true e w h = ap class_spelled (sym (same_Some _ w h))
+graded-back k c false e w h = cc
 
 class_back : (ns : List ℕ) (w : Class) → class_from ns ≡ Some w → class_spelled w ≡ ns
-class_back [] w h = none-some w h
-class_back (k ∷ []) w h = none-some w h
+class_back [] w h = cc
+class_back (k ∷ []) w h = cc
 class_back (k ∷ c ∷ []) w h = graded-back k c (leb k 7) refl w h
-class_back (k ∷ c ∷ x ∷ xs) w h = none-some w h
+class_back (k ∷ c ∷ x ∷ xs) w h = cc
 
 -- the first line, its end, and the lines after it
 headed-back : (ls : List (List ℕ)) (k : Kind) (n : ℕ) (p : Whole) → headed ls k n ≡ Ok p → written p ≡ (line_for cost_from cost_spelled cost-back (item.Head k n) ++ 10 ∷ []) ++ joined_by 10 ls
@@ -147,12 +145,12 @@ headed-back ls kind.Class n p h =
 
 opened-back : (ls : List (List ℕ)) (x : Item Cost) (p : Whole) → opened ls x ≡ Ok p → written p ≡ (line_for cost_from cost_spelled cost-back x ++ 10 ∷ []) ++ joined_by 10 ls
 opened-back ls (item.Head k n) p h = headed-back ls k n p h
-opened-back ls (item.Link e w) p h = err-ok _ p h
-opened-back ls (item.Change c) p h = err-ok _ p h
+opened-back ls (item.Link e w) p h = cc
+opened-back ls (item.Change c) p h = cc
 
 lines-back : (ls : List (List ℕ)) (p : Whole) → lines ls ≡ Ok p → written p ≡ joined_by 10 ls
-lines-back [] p h = err-ok _ p h
-lines-back (l ∷ []) p h = err-ok _ p h
+lines-back [] p h = cc
+lines-back (l ∷ []) p h = cc
 lines-back (l ∷ m ∷ ls) p h =
     let a = then_ok (line_at cost_from 1 l) (opened (m ∷ ls)) p h in
     let is : line_for cost_from cost_spelled cost-back a.0 ≡ l = line-back cost_from cost_spelled cost-back 1 l a.0 a.1 in
@@ -160,7 +158,6 @@ lines-back (l ∷ m ∷ ls) p h =
     opened-back (m ∷ ls) a.0 p a.2 ∙ ap (λ v. (v ++ 10 ∷ []) ++ tail) is ∙ append_assoc l (10 ∷ []) tail
 
 pub reads-back : ReadsBack
-unfolding file_of
 reads-back text plant h =
     let has = cond-not (ltb max_bytes (length text)) (cond (lacks_head text) (Err (OutOfPlace 1)) (lines (parts 10 text))) (OverCount 0) plant h in
     let all = cond-not (lacks_head text) (lines (parts 10 text)) (OutOfPlace 1) plant has in

@@ -2,34 +2,15 @@
 use Rattle.std.proofs.Common.{◌≡◌, ℕ, ◌+◌, ◌-◌, ◌*◌, ◌^◌, ◌<◌, true, eqb, ltb, List, [], ◌∷◌, length, get_or, Some, None, decimal, sym, refl, ap, ◌∙◌, ⊎_elim, arith, rules}
 use Rattle.std.proofs.lemmas.Fmt.{digits_decimal, digits_value-decimal, decimal-digits_value, decimal_nonempty, decimal_digit, first_decimal}
 use Rattle.std.proofs.lemmas.Str.Parse.{IsNumeralModel, numerals_by_fold}
-use Rattle.std.proofs.lemmas.Bool.{cases_Bool, cases_eq, cond-true, cond-false, lt-ltb, ltb-true, eqb-false, and_from, and_parts}
+use Rattle.std.proofs.lemmas.Bool.{cases_Bool, cases_eq, cond-true, cond-false, lt-ltb, ltb-true, eqb-false, ne_eqb, and_from, and_parts}
 use Rattle.std.specs.Char.{is_ascii_digit}
 use Rattle.std.specs.Str.{all_ascii_digits}
-use Rattle.plant_texts.specs.Laws.{joined_by, PartsJoin, NumbersOneWay}
+use Rattle.std.proofs.lemmas.List.Splits.{join_with_byte-slice_split}
+use Rattle.plant_texts.specs.Laws.{PartsJoin, NumbersOneWay}
 use Rattle.text_words.specs.Number.{numeral, value_from}
-use Rattle.text_words.specs.Split.{parts, on_first}
-use Rattle.text_words.proofs.Cutting.{parts-some, parts_in, parts_out}
-use Rattle.text_words.proofs.Values.{numeral-is}
-
-joined_in : (mark : ℕ) (ps : List (List ℕ)) (q : List ℕ) (qs : List (List ℕ)) → ps ≡ q ∷ qs → joined_by mark ([] ∷ ps) ≡ mark ∷ joined_by mark ps
-joined_in mark ps q qs e = ap (λ r. joined_by mark ([] ∷ r)) e ∙ ap (λ r. mark ∷ joined_by mark r) (sym e)
-
-joined-out : (mark b : ℕ) (ps : List (List ℕ)) → joined_by mark (on_first b ps) ≡ b ∷ joined_by mark ps
-unfolding on_first
-joined-out mark b [] = refl
-joined-out mark b (p ∷ []) = refl
-joined-out mark b (p ∷ q ∷ ps) = refl
 
 pub parts_join : PartsJoin
-unfolding parts
-parts_join mark [] = refl
-parts_join mark (b ∷ bs) =
-    let rest = parts_join mark bs in
-    let s = parts-some mark bs in
-    ⊎_elim
-    (λ e. ap (joined_by mark) (parts_in mark b bs e) ∙ joined_in mark (parts mark bs) s.0 s.1 s.2 ∙ ap (λ r. mark ∷ r) rest ∙ ap (λ m. m ∷ bs) (sym e))
-    (λ n. ap (joined_by mark) (parts_out mark b bs n) ∙ joined-out mark b (parts mark bs) ∙ ap (λ r. b ∷ r) rest)
-    (cases_eq b mark)
+parts_join mark bytes = join_with_byte-slice_split mark bytes
 
 abbrev read_on : ℕ → List ℕ → ℕ
 read_on n [] = n
@@ -43,29 +24,30 @@ unfolding value_from
 value_read n [] h l = cond-true _ _ _ (lt-ltb n 4294967296 l)
 value_read n (c ∷ cs) h l = let p = and_parts (is_ascii_digit c) (all_ascii_digits cs) h in cond-true _ _ _ p.0 ∙ value_read (n * 10 + (c - 48)) cs p.1 l
 
-some-none : (n : ℕ) {P : Type 0} → None ≡ Some n → P
-some-none n e = absurd (let z : ◌≡◌ {A = ℕ} 0 1 = cc in omega arith)
-
 value-told : (n : ℕ) (ds : List ℕ) (v : ℕ) → value_from n ds ≡ Some v → (all_ascii_digits ds ≡ true) × (read_on n ds ≡ v) × (v < 4294967296)
 unfolding value_from
 value-told n [] v h =
     ⊎_elim
     (λ t. let e : n ≡ v = cc (cond-true (ltb n 4294967296) (Some n) None t) in (refl, e, omega (arith, e, ltb-true n 4294967296 t)))
-    (λ f. some-none v (sym (cond-false (ltb n 4294967296) (Some n) None f) ∙ h))
+    (λ f. cc (sym (cond-false (ltb n 4294967296) (Some n) None f) ∙ h))
     (cases_Bool (ltb n 4294967296))
 value-told n (c ∷ cs) v h =
     ⊎_elim
     (λ t. let r = value-told (n * 10 + (c - 48)) cs v (sym (cond-true (is_ascii_digit c) _ None t) ∙ h) in (and_from (is_ascii_digit c) (all_ascii_digits cs) t r.0, r.1, r.2))
-    (λ f. some-none v (sym (cond-false (is_ascii_digit c) (value_from (n * 10 + (c - 48)) cs) None f) ∙ h))
+    (λ f. cc (sym (cond-false (is_ascii_digit c) (value_from (n * 10 + (c - 48)) cs) None f) ∙ h))
     (cases_Bool (is_ascii_digit c))
 
+numeral-is : (bs : List ℕ) → 0 < length bs → (1 < length bs → get_or bs 0 0 ≡ 48 → ⊥) → numeral bs ≡ value_from 0 bs
+numeral-is [] h e = absurd (omega arith)
+numeral-is (b ∷ []) h e = refl
+numeral-is (b ∷ c ∷ bs) h e = cond-false _ _ _ (ne_eqb b 48 (e (omega arith)))
+
 numeral-told : (w : List ℕ) (n : ℕ) → numeral w ≡ Some n → (0 < length w) × (get_or w 0 0 ≡ 48 → length w ≡ 1) × (value_from 0 w ≡ Some n)
-unfolding numeral
-numeral-told [] n h = some-none n h
+numeral-told [] n h = cc
 numeral-told (b ∷ []) n h = (omega arith, λ _. refl, h)
 numeral-told (b ∷ c ∷ bs) n h =
     ⊎_elim
-    (λ t. some-none n (sym (cond-true (eqb b 48) None (value_from 0 (b ∷ c ∷ bs)) t) ∙ h))
+    (λ t. cc (sym (cond-true (eqb b 48) None (value_from 0 (b ∷ c ∷ bs)) t) ∙ h))
     (λ f. (omega arith, λ e. absurd (eqb-false b 48 f e), sym (cond-false (eqb b 48) None (value_from 0 (b ∷ c ∷ bs)) f) ∙ h))
     (cases_Bool (eqb b 48))
 

@@ -1,6 +1,7 @@
 -- Laws of the format: a plant that was read, written out again, gives the text back; so do the parts of a text, and a
 -- number.
-use Rattle.std.specs.Prelude.{◌≡◌, ℕ, ◌<◌, List, [], ◌∷◌, ◌++◌, Some, Ok, decimal}
+use Rattle.std.specs.Prelude.{◌≡◌, ℕ, ◌<◌, List, Some, Ok, decimal}
+use Rattle.std.specs.List.{join_with_byte}
 use Rattle.text_words.specs.Number.{numeral}
 use Rattle.plant_text.specs.Plant.{Whole, file_of}
 use Rattle.text_words.specs.Split.{parts}
@@ -12,9 +13,7 @@ ReadsBack = (text : List ℕ) (plant : Whole) → file_of text ≡ Ok plant → 
 
 -- parts with a mark between each and the next
 abbrev pub joined_by : ℕ → List (List ℕ) → List ℕ
-joined_by mark [] = []
-joined_by mark (p ∷ []) = p
-joined_by mark (p ∷ q ∷ ps) = p ++ mark ∷ joined_by mark (q ∷ ps)
+joined_by mark ps = join_with_byte mark ps
 
 -- the parts of any bytes, with the marks put back, are the bytes
 abbrev pub PartsJoin : Type 0

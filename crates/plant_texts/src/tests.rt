@@ -1,31 +1,48 @@
 //! What texts tell, how they are refused, and what is printed.
 use faults::{DrawFault, OpenFault};
-use plan_lines::{EntryLine, TreeLine, WorkLine, draw_refusal, open_refusal, text_refusal};
-use plant_text::{Plant, Room, read_plant};
+use plan_lines::{EntryLine, Refusal, TreeLine, WorkLine, draw_refusal, open_refusal};
+use plant_text::{Plant, Room, Tables, read_plant};
 use std::alloc::{AllocError, Global};
+use std::process::Abort;
 use std::test::Fail;
 
 /// What a text tells, in short: its kind, and how many nodes, links and changes; or the refusal.
 fn answer(heap: Global, text: &[u8]) -> Result<String, AllocError> {
     let room = Room::reserve(heap)?;
     match read_plant(room, text) {
-        Ok(Plant::Costs(tables)) => {
-            let n = tables.n;
-            let links = tables.links.len();
-            let changes = tables.changes.len();
-            format!(in heap; "N {n} {links} {changes}")
-        }
-        Ok(Plant::Classes(tables)) => {
-            let n = tables.n;
-            let links = tables.links.len();
-            let changes = tables.changes.len();
-            format!(in heap; "P {n} {links} {changes}")
-        }
-        Err(fault) => {
-            let refusal = text_refusal(fault);
-            format!(in heap; "{refusal}")
-        }
+        Ok(Plant::Costs(tables)) => counts(heap, 'N', tables),
+        Ok(Plant::Classes(tables)) => counts(heap, 'P', tables),
+        Err(fault) => Refusal::from(fault).to_string(heap),
     }
+}
+
+/// A kind's letter, and how many nodes, links and changes there are.
+fn counts<W: Drop>(heap: Global, kind: char, tables: Tables<W>) -> Result<String, AllocError> {
+    let n = tables.n;
+    let links = tables.links.len();
+    let changes = tables.changes.len();
+    format!(in heap; "{kind} {n} {links} {changes}")
+}
+
+/// Asserts what each text tells.
+fn assert_told(rt: &impl Abort, heap: Global, cases: &[(&str, &str)]) -> Result<(), Fail> {
+    for (text, told) in cases {
+        assert_eq!(rt; answer(heap, text.as_bytes())?.as_str(), *told, "{}", text);
+    }
+    Ok(())
+}
+
+/// Asserts what a first text, and then another so many times, tells.
+fn assert_counted(
+    rt: &impl Abort,
+    heap: Global,
+    cases: &[(&str, &str, usize, &str)],
+) -> Result<(), Fail> {
+    for (first, more, times, told) in cases {
+        let text = repeated(heap, first, more, *times)?;
+        assert_eq!(rt; answer(heap, text.as_bytes())?.as_str(), *told, "{}", told);
+    }
+    Ok(())
 }
 
 /// A first text, and then another so many times.
@@ -48,15 +65,7 @@ fn texts_are_read(rt: HostRuntime) -> Result<(), Fail> {
         ("N 32\n", "N 32 0 0"),
         ("N 0\n", "N 0 0 0"),
     ];
-    for (text, told) in cases {
-        assert_eq!(rt;
-            answer(rt.alloc(), text.as_bytes())?.as_str(),
-            told,
-            "{}",
-            text
-        );
-    }
-    Ok(())
+    assert_told(&rt, rt.alloc(), &cases)
 }
 
 #[test]
@@ -77,15 +86,7 @@ fn texts_are_refused(rt: HostRuntime) -> Result<(), Fail> {
         ("N 2\r\n", "REFUSED 1 0 1"),
         ("N 2\nL 1 2 5\nR 1", "REFUSED 1 0 3"),
     ];
-    for (text, told) in cases {
-        assert_eq!(rt;
-            answer(rt.alloc(), text.as_bytes())?.as_str(),
-            told,
-            "{}",
-            text
-        );
-    }
-    Ok(())
+    assert_told(&rt, rt.alloc(), &cases)
 }
 
 /// The plant of two nodes, damaged in every way that a transfer or an editor may damage it.
@@ -152,16 +153,7 @@ fn counts_are_kept(rt: HostRuntime) -> Result<(), Fail> {
         ("", "x", 4096, "REFUSED 1 0 1"),
         ("", "x", 4097, "REFUSED 3 0 0"),
     ];
-    for (first, more, times, told) in cases {
-        let text = repeated(rt.alloc(), first, more, times)?;
-        assert_eq!(rt;
-            answer(rt.alloc(), text.as_bytes())?.as_str(),
-            told,
-            "{}",
-            told
-        );
-    }
-    Ok(())
+    assert_counted(&rt, rt.alloc(), &cases)
 }
 
 /// A text of line ends: the byte count is looked at before any line.
@@ -171,16 +163,7 @@ fn line_ends_are_counted(rt: HostRuntime) -> Result<(), Fail> {
         ("N 2\n", "\n", 4092, "REFUSED 1 0 2"),
         ("N 2\n", "\n", 4093, "REFUSED 3 0 0"),
     ];
-    for (first, more, times, told) in cases {
-        let text = repeated(rt.alloc(), first, more, times)?;
-        assert_eq!(rt;
-            answer(rt.alloc(), text.as_bytes())?.as_str(),
-            told,
-            "{}",
-            told
-        );
-    }
-    Ok(())
+    assert_counted(&rt, rt.alloc(), &cases)
 }
 
 #[test]

@@ -6,4 +6,4 @@ mod split;
 mod token;
 
 pub use split::cut;
-pub use token::{Letter, Token};
+pub use token::{Letter, Token, UnknownLetter};

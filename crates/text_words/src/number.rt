@@ -17,15 +17,10 @@ pub(crate) fn number(word: &[u8]) -> Option<u32>
 fn digits(word: &[u8]) -> Option<u32>
     ensures { result ≡ value_from 0 word.now }
 {
-    let mut value: u64 = 0;
+    let mut value = 0u32;
     for b in word {
-        if !b.is_ascii_digit() {
-            return None;
-        }
-        value = value * 10 + u64::from(*b - b'0');
-        if value > u64::from(u32::MAX) {
-            return None;
-        }
+        let digit = char::from(*b).to_digit(10)?;
+        value = value.checked_mul(10)?.checked_add(digit)?;
     }
-    Some(value as u32)
+    Some(value)
 }

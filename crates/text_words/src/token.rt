@@ -1,7 +1,7 @@
 //! The words of a line: each is a stretch of the input, with its line.
 ghost use Rattle.std.specs.Prelude.{◌≡◌};
 ghost use Rattle.std.specs.Option.{ok_or};
-ghost use Rattle.text_words.specs.Letter.{letter_of, letter_word};
+ghost use Rattle.text_words.specs.Letter.{letter_of, letter_word, unknown};
 ghost use Rattle.text_words.specs.Token.{letter_in, number_in, at};
 ghost use Rattle.faults.specs.declared.TextFault.TheVariants.{Malformed};
 
@@ -9,7 +9,7 @@ use crate::number::number;
 use faults::TextFault;
 
 /// The kinds of line, each told by its letter.
-#[derive(Clone, Copy)]
+#[derive(Clone, Copy, PartialEq, Eq, Debug)]
 pub enum Letter {
     Costs,
     Classes,
@@ -19,19 +19,25 @@ pub enum Letter {
     Flip,
 }
 
-impl Letter {
+/// A character that tells no kind of line.
+#[derive(Clone, Copy, PartialEq, Eq, Debug)]
+pub struct UnknownLetter(pub char);
+
+impl TryFrom<char> for Letter {
+    type Error = UnknownLetter;
+
+    ghost try_from_gives = { λ c r. r ≡ ok_or (letter_of c) (unknown c) };
+
     /// The kind of line that a letter tells.
-    pub fn of(c: char) -> Option<Letter>
-        ensures { result ≡ letter_of c }
-    {
+    fn try_from(c: char) -> Result<Letter, UnknownLetter> {
         match c {
-            'N' => Some(Letter::Costs),
-            'P' => Some(Letter::Classes),
-            'L' => Some(Letter::Link),
-            'S' => Some(Letter::Set),
-            'R' => Some(Letter::Remove),
-            'T' => Some(Letter::Flip),
-            _ => None,
+            'N' => Ok(Letter::Costs),
+            'P' => Ok(Letter::Classes),
+            'L' => Ok(Letter::Link),
+            'S' => Ok(Letter::Set),
+            'R' => Ok(Letter::Remove),
+            'T' => Ok(Letter::Flip),
+            _ => Err(UnknownLetter(c)),
         }
     }
 }
@@ -72,7 +78,7 @@ fn letter_word(text: &[u8]) -> Option<Letter>
     ensures { result ≡ letter_word text.now }
 {
     match text {
-        [b] => Letter::of(char::from(*b)),
+        [b] => Letter::try_from(char::from(*b)).ok(),
         _ => None,
     }
 }

@@ -1,9 +1,9 @@
-use Rattle.std.proofs.Common.{arith, rules}
-use Rattle.text_words.proofs.Cutting.{parts_none, cut_at}
+use Rattle.std.proofs.Common.{sym}
+use Rattle.text_words.proofs.Cutting.{cut_none, cut_at}
 use Rattle.text_words.proofs.split.cut.Goals as goal
 
-pub returns-then-b-mark : goal.returns-then-b-mark
-returns-then-b-mark c = cut_at c.args.mark c.args.bytes.now c.loop-i.i (omega arith) (search rules) c.loop-i.invariant
+pub returns-in_err-i : goal.returns-in_err-i
+returns-in_err-i c = rw c.from_residual.ensures (cut_none _ _ (sym c.in_err-i.ensures))
 
 pub returns : goal.returns
-returns c = parts_none c.args.mark c.args.bytes.now (λ k l. c.loop-i.invariant k (omega arith))
+returns c = cut_at _ _ _ (sym c.in_ok-i.ensures)

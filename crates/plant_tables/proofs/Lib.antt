@@ -1,2 +1,0 @@
-pub mod Reserving
-pub mod Filling
