@@ -69,9 +69,23 @@ mapped-none : {X Y : Type 0} (f : X → Y) (o : Option X) → option_map f o ≡
 mapped-none f None e = refl
 mapped-none f (Some x) e = absurd (let z : ◌≡◌ {A = ℕ} 0 1 = cc in omega arith)
 
-pub some-within : {X : Type 0} (os : List (Option X)) (s : ℕ) (x : X) → get_or os s None ≡ Some x → s < length os
+some-within : {X : Type 0} (os : List (Option X)) (s : ℕ) (x : X) → get_or os s None ≡ Some x → s < length os
 some-within os s x e =
     elim (cases_lt s (length os)) [ inl h ↦ h | inr h ↦ absurd (let a = get_or_past os s None h in let z : ◌≡◌ {A = ℕ} 0 1 = cc in omega arith) ]
+
+-- The plan in a slot, as code that holds this reads it.
+module _ {W F : Type 0} (h : Hand W F) (slot : ℕ) where
+  abbrev sheet_by : Drawn → Sheet
+  sheet_by d = record {
+    n = d.n;
+    m = d.m;
+    k = d.k;
+    start = part (width (length h.plans) h.start) slot h.start;
+    entries = part (width (length h.plans) h.entries) slot h.entries;
+  }
+
+  abbrev pub sheet_of : Option Sheet
+  sheet_of = option_map sheet_by (get_or h.plans slot None)
 
 -- Two hands that hold the same, but for the player, its slot and the fabric.
 pub record Alike {W F : Type 0} (h g : Hand W F) : Type 0 where
@@ -450,6 +464,11 @@ module _ {W F : Type 0} (side : W → W → Side) (carrying : F → List Bool) w
               (k.fabric ∙ sym gf) k,
         )
 
+  -- The same of an equal call and an equal answer.
+  pub makes-as : {c c' : Call} {a a' : Answer} {h g : Hand W F} → c ≡ c' → a ≡ a' → Makes side carrying h c' a' g → Makes side carrying h c a g
+  makes-as {c} {c'} {a} {a'} {h} {g} p q m =
+      subst (λ (z : Call). Makes side carrying h z a g) (sym p) (subst (λ (z : Answer). Makes side carrying h c' z g) (sym q) m)
+
   -- A further open.
   pub open-again : (h : Hand W F) → Makes side carrying h call.Open (open_answer h.refusal) h
   open-again h l x k = (x, go h.refusal k.book, k)
@@ -487,40 +506,35 @@ module _ {W F : Type 0} (side : W → W → Side) (carrying : F → List Bool) w
     no-plan call.Abandon Free t h e = nobody-between side carrying x.installation _ h
     no-plan call.Finish Free t h e = nobody-steady side carrying x.installation _ h
 
-  pub play-waits : (c : Call) (h : Hand W F) → to_player c ≡ true → get_or h.plans (place_of c h.seat h.at) None ≡ None → Makes side carrying h c NotMade h
+  pub play-waits : (c : Call) (h : Hand W F) → to_player c ≡ true → None ≡ sheet_of h (place_of c h.seat h.at) → Makes side carrying h c NotMade h
   play-waits c h t e l x k =
       let none : plan_at x.plans (place_of c h.seat x.at) ≡ None =
       mapped-none counted (plan_at x.plans (place_of c h.seat x.at))
       (sym (get_or-mapped counted x.plans (place_of c h.seat x.at)) ∙ sym (ap (λ ps. get_or ps (place_of c h.seat x.at) None) k.plans)
-      ∙ sym (ap (λ n. get_or h.plans (place_of c h.seat n) None) k.at) ∙ e) in
+      ∙ sym (ap (λ n. get_or h.plans (place_of c h.seat n) None) k.at)
+      ∙ mapped-none (sheet_by h (place_of c h.seat h.at)) (get_or h.plans (place_of c h.seat h.at) None) (sym e)) in
       (x, not_made l x c (sym (plans-stay c t NotMade x.installation.drawn x.plans)) (no-plan l x c h.seat t k.player none), k)
 
   -- A player's call, with the plan that it needs.
-  pub play-makes : (c : Call) (a : Answer) (h g : Hand W F) (s : Sheet) (cs : Drawn) → to_player c ≡ true
-      → get_or h.plans (place_of c h.seat h.at) None ≡ Some cs
-      → s.n ≡ cs.n → s.m ≡ cs.m → s.k ≡ cs.k
-      → s.start ≡ part (width (length h.plans) h.start) (place_of c h.seat h.at) h.start
-      → s.entries ≡ part (width (length h.plans) h.entries) (place_of c h.seat h.at) h.entries
+  pub play-makes : (c : Call) (a : Answer) (h g : Hand W F) (s : Sheet) → to_player c ≡ true → Some s ≡ sheet_of h (place_of c h.seat h.at)
       → Alike h g → g.at ≡ slot_after c a h.at
       → Plays side carrying s (place_of c h.seat h.at) c a h.seat h.fabric g.seat g.fabric → Makes side carrying h c a g
-  play-makes c a h g s cs tp e sn sm sk ss se al ga y l x k =
+  play-makes c a h g s tp e al ga y l x k =
       let place = place_of c h.seat h.at in
       let same_place : place ≡ place_of c h.seat x.at = ap (place_of c h.seat) k.at in
-      let found = mapped-some counted (plan_at x.plans place) cs (sym (get_or-mapped counted x.plans place) ∙ sym (ap (λ ps. get_or ps place None) k.plans) ∙ e) in
+      let read = mapped-some (sheet_by h place) (get_or h.plans place None) s (sym e) in
+      let found = mapped-some counted (plan_at x.plans place) read.0 (sym (get_or-mapped counted x.plans place) ∙ sym (ap (λ ps. get_or ps place None) k.plans) ∙ read.1) in
       let d = found.0 in
       let inside : place < l.slots = let a = some-within x.plans place d found.1 in let b = k.slots in omega arith in
-      let st : d.sheet.start ≡ s.start =
-      sym (ss ∙ ap (λ w. part w place h.start) (ap₂ (λ m n. m / n) k.start.long (slots-are k)) ∙ k.start.part-is place inside
+      let st : d.sheet.start ≡ part (width (length h.plans) h.start) place h.start =
+      sym (ap (λ w. part w place h.start) (ap₂ (λ m n. m / n) k.start.long (slots-are k)) ∙ k.start.part-is place inside
       ∙ ap (λ (o : Option (DrawnPlan W)). or_kept (option_map (λ (z : DrawnPlan W). z.sheet.start) o) (part (width l.slots l.start) place l.start)) found.1) in
-      let en : d.sheet.entries ≡ s.entries =
-      sym (se ∙ ap (λ w. part w place h.entries) (ap₂ (λ m n. m / n) k.entries.long (slots-are k)) ∙ k.entries.part-is place inside
+      let en : d.sheet.entries ≡ part (width (length h.plans) h.entries) place h.entries =
+      sym (ap (λ w. part w place h.entries) (ap₂ (λ m n. m / n) k.entries.long (slots-are k)) ∙ k.entries.part-is place inside
       ∙ ap (λ (o : Option (DrawnPlan W)). or_kept (option_map (λ (z : DrawnPlan W). z.sheet.entries) o) (part (width l.slots l.entries) place l.entries)) found.1) in
       let same : d.sheet ≡ s =
-      ap (λ z. record { n = z; m = d.sheet.m; k = d.sheet.k; start = d.sheet.start; entries = d.sheet.entries }) (ap (λ (z : Drawn). z.n) found.2 ∙ sym sn)
-      ∙ ap (λ z. record { n = s.n; m = z; k = d.sheet.k; start = d.sheet.start; entries = d.sheet.entries }) (ap (λ (z : Drawn). z.m) found.2 ∙ sym sm)
-      ∙ ap (λ z. record { n = s.n; m = s.m; k = z; start = d.sheet.start; entries = d.sheet.entries }) (ap (λ (z : Drawn). z.k) found.2 ∙ sym sk)
-      ∙ ap (λ z. record { n = s.n; m = s.m; k = s.k; start = z; entries = d.sheet.entries }) st
-      ∙ ap (λ z. record { n = s.n; m = s.m; k = s.k; start = s.start; entries = z }) en in
+      ap (λ (z : Drawn). record { n = z.n; m = z.m; k = z.k; start = d.sheet.start; entries = d.sheet.entries }) found.2
+      ∙ ap₂ (λ (u : List ℕ) (v : List (ℕ × ℕ)). record { n = read.0.n; m = read.0.m; k = read.0.k; start = u; entries = v }) st en ∙ read.2 in
       let r = y l x (record {
         plan = d;
         there = found.1;

@@ -6,6 +6,8 @@ use Rattle.std.proofs.lemmas.List.{length-take-le, length-drop, take-append-drop
 use Rattle.std.proofs.lemmas.Slice.{take-put_mid_below, drop-put_mid}
 use Rattle.std.proofs.lemmas.Bool.{cases_lt}
 use Rattle.installation.specs.Slots.{width, part, or_kept, parts, table_now, Table}
+use Rattle.installation.specs.declared.memory.Memory.{Memory}
+use Rattle.installation.specs.Memory.{SameTables}
 
 -- Where a slot's part ends.
 pub part-ends : (slots s w : ℕ) → s < slots → s * w + w ≤ slots * w
@@ -96,3 +98,16 @@ table-put slots s written after was now ys h long here others t =
   where
     apart : (r s : ℕ) → (r ≡ s) ⊎ ((r < s) ⊎ (s < r))
     apart r s = elim (cases_lt r s) [ inl a ↦ inr (inl a) | inr b ↦ elim (cases_lt s r) [ inl c ↦ inr (inr c) | inr d ↦ inl (omega arith) ] ]
+
+-- Tables that are still those that were lent.
+pub tables-kept : {W : Type 0} (m : Memory W) → SameTables m m
+tables-kept m = record { plans = (refl, refl); changes = refl; start = (refl, refl); entries = (refl, refl); work = (refl, refl) }
+
+pub kept-then : {W : Type 0} {a b c : Memory W} → SameTables a b → SameTables b c → SameTables a c
+kept-then p q = record {
+  plans = (q.plans.0 ∙ p.plans.0, q.plans.1 ∙ p.plans.1);
+  changes = q.changes ∙ p.changes;
+  start = (q.start.0 ∙ p.start.0, q.start.1 ∙ p.start.1);
+  entries = (q.entries.0 ∙ p.entries.0, q.entries.1 ∙ p.entries.1);
+  work = (q.work.0 ∙ p.work.0, q.work.1 ∙ p.work.1);
+}

@@ -1,5 +1,7 @@
 -- Each call of the player, as code makes it, is a step of the installation that it holds.
-use Rattle.std.proofs.Common.{◌≡◌, ℕ, ◌+◌, ◌-◌, Bool, List, Some, None, Ok, Err, Option, Result, sym, refl, ap, ◌∙◌, subst}
+use Rattle.std.proofs.Common.{◌≡◌, ℕ, ◌+◌, ◌-◌, Bool, true, List, Some, None, Ok, Err, Option, Result, sym, refl, ap, subst}
+use Rattle.std.specs.Prelude.{MatchResult}
+use Rattle.std.proofs.lemmas.Bool.{both_ways}
 use Rattle.faults.specs.declared.PlayerFault.{PlayerFault}
 use Rattle.weights.specs.declared.order.Side.{Side}
 use Rattle.player.specs.declared.states.Steady.{Steady}
@@ -18,16 +20,21 @@ use Rattle.installation.specs.declared.call.Call.TheVariants as call
 use Rattle.installation.specs.declared.seat.Seat.{Seat}
 use Rattle.installation.specs.declared.seat.Seat.TheVariants.{Free, Still, Moving}
 use Rattle.installation.specs.Perform.{Desk, plan_at, lay_it, by_player, slot_after, Made, Seated}
+use Rattle.installation.specs.Hands.{place_of, to_player}
 use Rattle.installation.specs.Turns.{PlanHeld, Played, Plays}
 
--- The seats after a call.
-abbrev pub departing : Result Between (Kept Steady) → Seat
-departing (Ok b) = Moving b
-departing (Err k) = Still k.player
+-- The seat and the answer after a call that leaves a next state, or hands the last one back.
+abbrev pub Moved : {N L : Type 0} → (N → Seat) → (L → Seat) → Result N (Kept L) → Seat → Answer → Type 0
+Moved next last r seat a = MatchResult r (λ n. (seat ≡ next n) × (a ≡ Granted)) (λ k. (seat ≡ last k.player) × (a ≡ Refused k.fault))
 
-abbrev pub arriving : Result Steady (Kept Between) → Seat
-arriving (Ok p) = Still p
-arriving (Err k) = Moving k.player
+abbrev pub seat_of : {N L : Type 0} → (N → Seat) → (L → Seat) → Result N (Kept L) → Seat
+seat_of next last (Ok n) = next n
+seat_of next last (Err k) = last k.player
+
+moved : {N L : Type 0} (next : N → Seat) (last : L → Seat) (r : Result N (Kept L)) {seat : Seat} {a : Answer} → Moved next last r seat a
+    → (seat ≡ seat_of next last r) × (a ≡ told r)
+moved next last (Ok n) m = m
+moved next last (Err k) m = m
 
 module _ {W F : Type 0} (side : W → W → Side) (carrying : F → List Bool) where
   -- A request that the player's state allows is made.
@@ -65,12 +72,23 @@ module _ {W F : Type 0} (side : W → W → Side) (carrying : F → List Bool) w
 
   module _ (s : Sheet) where
     -- The same of equal seats and answers.
-    pub plays-as : {x x' y y' : Seat} {a a' : Answer} (at : ℕ) (c : Call) (f f' : F) → x ≡ x' → y ≡ y' → a ≡ a'
-        → Plays side carrying s at c a' x' f y' f' → Plays side carrying s at c a x f y f'
-    plays-as {x} {x'} {y} {y'} {a} {a'} at c f f' p q r h =
-        subst (λ (z : Seat). Plays side carrying s at c a z f y f') (sym p)
-        (subst (λ (z : Seat). Plays side carrying s at c a x' f z f') (sym q)
-        (subst (λ (z : Answer). Plays side carrying s at c z x' f y' f') (sym r) h))
+    plays-as : {y y' : Seat} {a a' : Answer} (at : ℕ) (c : Call) (x : Seat) (f f' : F) → (y ≡ y') × (a ≡ a')
+        → Plays side carrying s at c a' x f y' f' → Plays side carrying s at c a x f y f'
+    plays-as {y} {y'} {a} {a'} at c x f f' e h =
+        subst (λ (z : Seat). Plays side carrying s at c a x f z f') (sym e.0)
+        (subst (λ (z : Answer). Plays side carrying s at c z x f y' f') (sym e.1) h)
+
+    -- A player's call, with the plan of the slot that it needs.
+    abbrev pub Placed : Call → Answer → Seat → F → Seat → F → Type 0
+    Placed c a x f y f' = to_player c ≡ true → (slot : ℕ) → Plays side carrying s (place_of c x slot) c a x f y f'
+
+    pub placed : {c c' : Call} {x x' : Seat} {y y' : Seat} {a a' : Answer} {f f' : F} → c ≡ c' → x ≡ x' → (y ≡ y') × (a ≡ a')
+        → Placed c' a' x' f y' f' → Placed c a x f y f'
+    placed {c} {c'} {x} {x'} {y} {y'} {a} {a'} {f} {f'} p q e h =
+        subst (λ (z : Call). Placed z a x f y f') (sym p)
+        (subst (λ (z : Seat). Placed c' a z f y f') (sym q)
+        (subst (λ (z : Seat). Placed c' a x' f z f') (sym e.0)
+        (subst (λ (z : Answer). Placed c' z x' f y' f') (sym e.1) h)))
 
     -- The call is not made.
     unchanged : {x : Desk W F} {at : ℕ} {seat : Seat} {c : Call} (f : F) → slot_after c NotMade x.at ≡ x.at → PlanHeld s at seat f x
@@ -82,51 +100,46 @@ module _ {W F : Type 0} (side : W → W → Side) (carrying : F → List Bool) w
       player = subst (λ (z : ℕ). Seated seat (plan_at x.plans z) x.installation.player) (sym e) h.player;
     }
 
-    module _ (at : ℕ) (f : F) where
-      pub lay-still : (to : ℕ) (p : Steady) → Plays side carrying s at (call.Lay to) NotMade (Still p) f (Still p) f
-      lay-still to p l x h =
+    module _ (f : F) where
+      -- A free seat allows lay alone, a steady player forward, backward and finish, one between join, cancel and abandon.
+      pub free-waits : (c : Call) → ((to : ℕ) → c ≡ call.Lay to → ⊥) → Placed c NotMade Free f Free f
+      free-waits call.Open other t = absurd (both_ways true (sym t) refl)
+      free-waits (call.Draw b) other t = absurd (both_ways true (sym t) refl)
+      free-waits (call.Lay to) other t = absurd (other to refl)
+      free-waits call.Forward other t = λ at l x h. (x.installation, nobody-steady x.installation (Some forward) h.player, unchanged f refl h)
+      free-waits call.Backward other t = λ at l x h. (x.installation, nobody-steady x.installation (Some backward) h.player, unchanged f refl h)
+      free-waits call.Join other t = λ at l x h. (x.installation, nobody-between x.installation (Some join) h.player, unchanged f refl h)
+      free-waits call.Cancel other t = λ at l x h. (x.installation, nobody-between x.installation (Some cancel) h.player, unchanged f refl h)
+      free-waits call.Abandon other t = λ at l x h. (x.installation, nobody-between x.installation (Some abandon) h.player, unchanged f refl h)
+      free-waits call.Finish other t = λ at l x h. (x.installation, nobody-steady x.installation (Some finish) h.player, unchanged f refl h)
+
+      pub still-waits : (p : Steady) (c : Call) → (c ≡ call.Forward → ⊥) → (c ≡ call.Backward → ⊥) → (c ≡ call.Finish → ⊥)
+          → Placed c NotMade (Still p) f (Still p) f
+      still-waits p call.Open n m o t = absurd (both_ways true (sym t) refl)
+      still-waits p (call.Draw b) n m o t = absurd (both_ways true (sym t) refl)
+      still-waits p (call.Lay to) n m o t = λ at l x h.
           (x.installation, steady-seated x.installation (lay_it (plan_at x.plans to)) h.player.3, unchanged f refl h)
+      still-waits p call.Forward n m o t = absurd (n refl)
+      still-waits p call.Backward n m o t = absurd (m refl)
+      still-waits p call.Join n m o t = λ at l x h. (x.installation, steady-between x.installation (Some join) h.player.3, unchanged f refl h)
+      still-waits p call.Cancel n m o t = λ at l x h. (x.installation, steady-between x.installation (Some cancel) h.player.3, unchanged f refl h)
+      still-waits p call.Abandon n m o t = λ at l x h. (x.installation, steady-between x.installation (Some abandon) h.player.3, unchanged f refl h)
+      still-waits p call.Finish n m o t = absurd (o refl)
 
-      pub lay-moving : (to : ℕ) (b : Between) → Plays side carrying s at (call.Lay to) NotMade (Moving b) f (Moving b) f
-      lay-moving to b l x h =
+      pub moving-waits : (b : Between) (c : Call) → (c ≡ call.Join → ⊥) → (c ≡ call.Cancel → ⊥) → (c ≡ call.Abandon → ⊥)
+          → Placed c NotMade (Moving b) f (Moving b) f
+      moving-waits b call.Open n m o t = absurd (both_ways true (sym t) refl)
+      moving-waits b (call.Draw d) n m o t = absurd (both_ways true (sym t) refl)
+      moving-waits b (call.Lay to) n m o t = λ at l x h.
           (x.installation, between-seated x.installation (lay_it (plan_at x.plans to)) h.player.4, unchanged f refl h)
+      moving-waits b call.Forward n m o t = λ at l x h. (x.installation, between-steady x.installation (Some forward) h.player.4, unchanged f refl h)
+      moving-waits b call.Backward n m o t = λ at l x h. (x.installation, between-steady x.installation (Some backward) h.player.4, unchanged f refl h)
+      moving-waits b call.Join n m o t = absurd (n refl)
+      moving-waits b call.Cancel n m o t = absurd (m refl)
+      moving-waits b call.Abandon n m o t = absurd (o refl)
+      moving-waits b call.Finish n m o t = λ at l x h. (x.installation, between-steady x.installation (Some finish) h.player.4, unchanged f refl h)
 
-      pub forward-free : Plays side carrying s at call.Forward NotMade Free f Free f
-      forward-free l x h = (x.installation, nobody-steady x.installation (Some forward) h.player, unchanged f refl h)
-
-      pub forward-moving : (b : Between) → Plays side carrying s at call.Forward NotMade (Moving b) f (Moving b) f
-      forward-moving b l x h = (x.installation, between-steady x.installation (Some forward) h.player.4, unchanged f refl h)
-
-      pub backward-free : Plays side carrying s at call.Backward NotMade Free f Free f
-      backward-free l x h = (x.installation, nobody-steady x.installation (Some backward) h.player, unchanged f refl h)
-
-      pub backward-moving : (b : Between) → Plays side carrying s at call.Backward NotMade (Moving b) f (Moving b) f
-      backward-moving b l x h = (x.installation, between-steady x.installation (Some backward) h.player.4, unchanged f refl h)
-
-      pub join_free : Plays side carrying s at call.Join NotMade Free f Free f
-      join_free l x h = (x.installation, nobody-between x.installation (Some join) h.player, unchanged f refl h)
-
-      pub join-still : (p : Steady) → Plays side carrying s at call.Join NotMade (Still p) f (Still p) f
-      join-still p l x h = (x.installation, steady-between x.installation (Some join) h.player.3, unchanged f refl h)
-
-      pub cancel-free : Plays side carrying s at call.Cancel NotMade Free f Free f
-      cancel-free l x h = (x.installation, nobody-between x.installation (Some cancel) h.player, unchanged f refl h)
-
-      pub cancel-still : (p : Steady) → Plays side carrying s at call.Cancel NotMade (Still p) f (Still p) f
-      cancel-still p l x h = (x.installation, steady-between x.installation (Some cancel) h.player.3, unchanged f refl h)
-
-      pub abandon-free : Plays side carrying s at call.Abandon NotMade Free f Free f
-      abandon-free l x h = (x.installation, nobody-between x.installation (Some abandon) h.player, unchanged f refl h)
-
-      pub abandon-still : (p : Steady) → Plays side carrying s at call.Abandon NotMade (Still p) f (Still p) f
-      abandon-still p l x h = (x.installation, steady-between x.installation (Some abandon) h.player.3, unchanged f refl h)
-
-      pub finish-free : Plays side carrying s at call.Finish NotMade Free f Free f
-      finish-free l x h = (x.installation, nobody-steady x.installation (Some finish) h.player, unchanged f refl h)
-
-      pub finish-moving : (b : Between) → Plays side carrying s at call.Finish NotMade (Moving b) f (Moving b) f
-      finish-moving b l x h = (x.installation, between-steady x.installation (Some finish) h.player.4, unchanged f refl h)
-
+    module _ (at : ℕ) (f : F) where
       -- The call ends the player.
       pub abandoned : (b : Between) → Plays side carrying s at call.Abandon (Abandoned b.leaving b.coming) (Moving b) f Free f
       abandoned b l x h =
@@ -147,27 +160,27 @@ module _ {W F : Type 0} (side : W → W → Side) (carrying : F → List Bool) w
           )
 
     module _ (at : ℕ) (f g : F) where
-      to-lay : {x : Desk W F} {j : Installation W F} {a : Answer} (h : PlanHeld s at Free f x) (to : ℕ) → to ≡ at
+      to-lay : {x : Desk W F} {j : Installation W F} {a : Answer} (h : PlanHeld s at Free f x)
           → Step side carrying x.installation (laying h.plan.sheet) a j
-          → Made side carrying (by_player x.installation.player (lay_it (plan_at x.plans to)) None None) x.installation a j
-      to-lay {x} {j} {a} h to e y =
+          → Made side carrying (by_player x.installation.player (lay_it (plan_at x.plans at)) None None) x.installation a j
+      to-lay {x} {j} {a} h y =
           subst (λ (o : Option (DrawnPlan W)). Made side carrying (by_player x.installation.player (lay_it o) None None) x.installation a j)
-          (sym (ap (plan_at x.plans) e ∙ h.there)) (made-nobody x.installation h.player y)
+          (sym h.there) (made-nobody x.installation h.player y)
 
       -- The call is granted or refused.
-      pub laid-plan : (to : ℕ) → to ≡ at → (p : Steady) → Lays s (carrying f) (Ok p) (carrying g) → Plays side carrying s at (call.Lay to) Granted Free f (Still p) g
-      laid-plan to e p y l x h = (
+      pub laid-plan : (p : Steady) → Lays s (carrying f) (Ok p) (carrying g) → Plays side carrying s at (call.Lay at) Granted Free f (Still p) g
+      laid-plan p y l x h = (
         laid x.installation g (steady p 0 h.plan),
-        to-lay h to e (lay-granted h.plan p g h.one h.player
+        to-lay h (lay-granted h.plan p g h.one h.player
             (subst (λ (z : Sheet). Lays z (carrying x.installation.fabric) (Ok p) (carrying g)) (sym h.sheet)
             (subst (λ (z : F). Lays s (carrying z) (Ok p) (carrying g)) (sym h.fabric) y))),
-        record { book = refl; drawn = refl; fabric = refl; player = (0, h.plan, ap (plan_at x.plans) e ∙ h.there, refl) },
+        record { book = refl; drawn = refl; fabric = refl; player = (0, h.plan, h.there, refl) },
       )
 
-      pub lay-fails : (to : ℕ) → to ≡ at → (e : PlayerFault) → Lays s (carrying f) (Err e) (carrying g) → Plays side carrying s at (call.Lay to) (Refused e) Free f Free g
-      lay-fails to q e y l x h = (
+      pub lay-fails : (e : PlayerFault) → Lays s (carrying f) (Err e) (carrying g) → Plays side carrying s at (call.Lay at) (Refused e) Free f Free g
+      lay-fails e y l x h = (
         played x.installation g x.installation.player,
-        to-lay h to q (lay-refused h.plan.sheet e g
+        to-lay h (lay-refused h.plan.sheet e g
             (subst (λ (z : Sheet). Lays z (carrying x.installation.fabric) (Err e) (carrying g)) (sym h.sheet)
             (subst (λ (z : F). Lays s (carrying z) (Err e) (carrying g)) (sym h.fabric) y))),
         record { book = refl; drawn = refl; fabric = refl; player = h.player },
@@ -177,17 +190,17 @@ module _ {W F : Type 0} (side : W → W → Side) (carrying : F → List Bool) w
       own-plan : {x : Desk W F} {seat : Seat} (h : PlanHeld s at seat f x) → at ≡ x.at → (d : DrawnPlan W) → plan_at x.plans x.at ≡ Some d → s ≡ d.sheet
       own-plan {x} h e d q = let a = h.there in let b = ap (plan_at x.plans) e in let c = h.sheet in cc
 
-      gone : (t u : ℕ) (d : DrawnPlan W) (o : Option (DrawnPlan W)) (r : Result Between (Kept Steady)) → o ≡ Some d → Seated (departing r) o (departed t u d r)
+      gone : (t u : ℕ) (d : DrawnPlan W) (o : Option (DrawnPlan W)) (r : Result Between (Kept Steady)) → o ≡ Some d → Seated (seat_of Moving Still r) o (departed t u d r)
       gone t u d o (Ok b) e = (t, u, d, e, refl)
       gone t u d o (Err k) e = (t, d, e, refl)
 
-      come : (t u v : ℕ) (d : DrawnPlan W) (o : Option (DrawnPlan W)) (r : Result Steady (Kept Between)) → o ≡ Some d → Seated (arriving r) o (arrived_at t u v d r)
+      come : (t u v : ℕ) (d : DrawnPlan W) (o : Option (DrawnPlan W)) (r : Result Steady (Kept Between)) → o ≡ Some d → Seated (seat_of Still Moving r) o (arrived_at t u v d r)
       come t u v d o (Ok p) e = (v, d, e, refl)
       come t u v d o (Err k) e = (t, u, d, e, refl)
 
       pub forwarded : (p : Steady) (r : Result Between (Kept Steady)) → Forwards (rest p) s (carrying f) r (carrying g)
-          → Plays side carrying s at call.Forward (told r) (Still p) f (departing r) g
-      forwarded p r y l x h =
+          → {seat : Seat} {a : Answer} → Moved Moving Still r seat a → Plays side carrying s at call.Forward a (Still p) f seat g
+      forwarded p r y m = plays-as at call.Forward (Still p) f g (moved Moving Still r m) (λ l x h.
           let i = x.installation in
           let t = h.player.0 in
           let d = h.player.1 in
@@ -197,11 +210,11 @@ module _ {W F : Type 0} (side : W → W → Side) (carrying : F → List Bool) w
                 (subst (λ (z : Sheet). Forwards (rest p) z (carrying i.fabric) r (carrying g)) (own-plan h (h.own refl) d h.player.2)
                 (subst (λ (z : F). Forwards (rest p) s (carrying z) r (carrying g)) (sym h.fabric) y))),
             record { book = refl; drawn = refl; fabric = refl; player = gone t (t + 1) d (plan_at x.plans x.at) r h.player.2 },
-          )
+          ))
 
       pub backwarded : (p : Steady) (r : Result Between (Kept Steady)) → Backwards (rest p) s (carrying f) r (carrying g)
-          → Plays side carrying s at call.Backward (told r) (Still p) f (departing r) g
-      backwarded p r y l x h =
+          → {seat : Seat} {a : Answer} → Moved Moving Still r seat a → Plays side carrying s at call.Backward a (Still p) f seat g
+      backwarded p r y m = plays-as at call.Backward (Still p) f g (moved Moving Still r m) (λ l x h.
           let i = x.installation in
           let t = h.player.0 in
           let d = h.player.1 in
@@ -211,11 +224,11 @@ module _ {W F : Type 0} (side : W → W → Side) (carrying : F → List Bool) w
                 (subst (λ (z : Sheet). Backwards (rest p) z (carrying i.fabric) r (carrying g)) (own-plan h (h.own refl) d h.player.2)
                 (subst (λ (z : F). Backwards (rest p) s (carrying z) r (carrying g)) (sym h.fabric) y))),
             record { book = refl; drawn = refl; fabric = refl; player = gone t (t - 1) d (plan_at x.plans x.at) r h.player.2 },
-          )
+          ))
 
       pub joined : (b : Between) (r : Result Steady (Kept Between)) → Joins (way b) (carrying f) r (carrying g)
-          → Plays side carrying s at call.Join (told r) (Moving b) f (arriving r) g
-      joined b r y l x h =
+          → {seat : Seat} {a : Answer} → Moved Still Moving r seat a → Plays side carrying s at call.Join a (Moving b) f seat g
+      joined b r y m = plays-as at call.Join (Moving b) f g (moved Still Moving r m) (λ l x h.
           let i = x.installation in
           let t = h.player.0 in
           let u = h.player.1 in
@@ -224,11 +237,11 @@ module _ {W F : Type 0} (side : W → W → Side) (carrying : F → List Bool) w
             played i g (arrived_at t u u d r),
             made-between i e (joins b t u d r g e (subst (λ (z : F). Joins (way b) (carrying z) r (carrying g)) (sym h.fabric) y)),
             record { book = refl; drawn = refl; fabric = refl; player = come t u u d (plan_at x.plans x.at) r h.player.3 },
-          )
+          ))
 
       pub cancelled : (b : Between) (r : Result Steady (Kept Between)) → Cancels (way b) (carrying f) r (carrying g)
-          → Plays side carrying s at call.Cancel (told r) (Moving b) f (arriving r) g
-      cancelled b r y l x h =
+          → {seat : Seat} {a : Answer} → Moved Still Moving r seat a → Plays side carrying s at call.Cancel a (Moving b) f seat g
+      cancelled b r y m = plays-as at call.Cancel (Moving b) f g (moved Still Moving r m) (λ l x h.
           let i = x.installation in
           let t = h.player.0 in
           let u = h.player.1 in
@@ -237,4 +250,4 @@ module _ {W F : Type 0} (side : W → W → Side) (carrying : F → List Bool) w
             played i g (arrived_at t u t d r),
             made-between i e (cancels b t u d r g e (subst (λ (z : F). Cancels (way b) (carrying z) r (carrying g)) (sym h.fabric) y)),
             record { book = refl; drawn = refl; fabric = refl; player = come t u t d (plan_at x.plans x.at) r h.player.3 },
-          )
+          ))

@@ -19,8 +19,10 @@ use Rattle.promise.specs.Calls.{One}
 use Rattle.installation.specs.declared.call.Batch.{Batch}
 use Rattle.installation.specs.declared.call.Call.{Call}
 use Rattle.installation.specs.declared.call.Call.TheVariants as call
+use Rattle.installation.specs.declared.memory.Memory.{Memory}
 use Rattle.installation.specs.declared.seat.Seat.{Seat}
 use Rattle.installation.specs.declared.seat.Seat.TheVariants.{Free, Still, Moving}
+use Rattle.installation.specs.declared.seat.State.{State}
 use Rattle.installation.specs.Slots.{Table}
 use Rattle.installation.specs.Perform.{Lent, Desk, plan_at, start_in, entries_in, counted, Turn, Turns, Seated}
 
@@ -48,20 +50,20 @@ pub record Hand (W F : Type 0) : Type 0 where
   pub at : ℕ
   pub fabric : F
 
-abbrev pub hand : {W F : Type 0} {kind : Weight.Ghosts W} {order : Ordered.Ghosts W} → Book W kind order → List (Option Drawn) → List (Change W) → List ℕ → List (ℕ × ℕ) → ℕ → Seat → ℕ → F → Hand W F
-hand book plans changes start entries work seat at fabric = record {
+abbrev pub hand : {W F : Type 0} {kind : Weight.Ghosts W} {order : Ordered.Ghosts W} → Book W kind order → Memory W → State → F → Hand W F
+hand book memory state fabric = record {
   n = book.n;
   ends = book.ends.now;
   links = book.links.now;
   tree = book.tree.now;
   refusal = book.refusal;
-  plans = plans;
-  changes = changes;
-  start = start;
-  entries = entries;
-  work = work;
-  seat = seat;
-  at = at;
+  plans = memory.plans.now;
+  changes = memory.changes.now;
+  start = memory.start.now;
+  entries = memory.entries.now;
+  work = length memory.work.now;
+  seat = state.seat;
+  at = state.slot;
   fabric = fabric;
 }
 

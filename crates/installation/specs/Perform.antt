@@ -17,6 +17,7 @@ use Rattle.installation.specs.declared.call.Batch.{Batch}
 use Rattle.installation.specs.declared.call.Call.{Call}
 use Rattle.installation.specs.declared.call.Call.TheVariants as call
 use Rattle.installation.specs.declared.call.Line.{Line}
+use Rattle.installation.specs.declared.memory.Memory.{Memory}
 use Rattle.installation.specs.declared.seat.Seat.{Seat}
 use Rattle.installation.specs.declared.seat.Seat.TheVariants.{Free, Still, Moving}
 use Rattle.installation.specs.declared.seat.State.{State}
@@ -41,15 +42,15 @@ pub record Lent (W : Type 0) : Type 0 where
   pub entries : List (ℕ × ℕ)
   pub work : ℕ
 
-abbrev pub lent : {W : Type 0} → Tables W → ℕ → List (Change W) → List ℕ → List (ℕ × ℕ) → ℕ → Lent W
-lent tables slots changes start entries work = record {
+abbrev pub lent : {W : Type 0} → Tables W → Memory W → Lent W
+lent tables memory = record {
   net = record { n = tables.n; ends = tables.ends.now; links = tables.links.now };
   tree = tables.tree.now;
-  slots = slots;
-  changes = changes;
-  start = start;
-  entries = entries;
-  work = work;
+  slots = length memory.plans.now;
+  changes = memory.changes.now;
+  start = memory.start.now;
+  entries = memory.entries.now;
+  work = length memory.work.now;
 }
 
 -- An installation and its slots: the plan that was last drawn into each, and the slot of the player's plan, if there is a player.
@@ -201,20 +202,20 @@ tree_now side tree (Some g) = fronted (least_tree side g.ends g.links) tree
 
 -- What is left in the lent tables, the seat and the fabric.
 pub record Leaves {W F : Type 0} (side : W → W → Side) (l : Lent W) (x : Desk W F)
-    (tables : Tables W) (ps : List (Option Drawn)) (ss : List ℕ) (es : List (ℕ × ℕ)) (state : State) (f : F) : Type 0 where
+    (tables : Tables W) (memory : Memory W) (state : State) (f : F) : Type 0 where
   pub nodes : tables.n ≡ l.net.n
   pub ends : tables.ends.now ≡ l.net.ends
   pub links : tables.links.now ≡ links_now l.net.links x.installation.book
   pub tree : tables.tree.now ≡ tree_now side l.tree x.installation.book
-  pub plans : ps ≡ map (option_map counted) x.plans
-  pub start : ss ≡ table_now l.slots (start_in x.plans) l.start
-  pub entries : es ≡ table_now l.slots (entries_in x.plans) l.entries
+  pub plans : memory.plans.now ≡ map (option_map counted) x.plans
+  pub start : memory.start.now ≡ table_now l.slots (start_in x.plans) l.start
+  pub entries : memory.entries.now ≡ table_now l.slots (entries_in x.plans) l.entries
   pub player : Seated state.seat (plan_at x.plans state.slot) x.installation.player
   pub fabric : x.installation.fabric ≡ f
 
 -- From a new installation with this fabric, these calls with these answers lead to one that leaves this, and the promise stands of it.
 abbrev pub Performed : {W F : Type 0} → (W → W → Side) → (F → List Bool) → Lent W → F → List Call → List Answer
-    → Tables W → List (Option Drawn) → List ℕ → List (ℕ × ℕ) → State → F → Type 0
-Performed {W} {F} side carrying l before cs rs tables plans start entries state after =
-    (x : Desk W F) × Turns side carrying l (fresh l before) cs rs x × Leaves side l x tables plans start entries state after
+    → Tables W → Memory W → State → F → Type 0
+Performed {W} {F} side carrying l before cs rs tables memory state after =
+    (x : Desk W F) × Turns side carrying l (fresh l before) cs rs x × Leaves side l x tables memory state after
     × Stands side carrying x.installation

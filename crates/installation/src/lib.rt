@@ -4,12 +4,14 @@
 
 mod call;
 mod draws;
+mod memory;
 mod performing;
 mod seat;
 mod slots;
 mod turns;
 
 pub use call::{Batch, Call, Line};
+pub use memory::Memory;
 pub use performing::{Outcome, perform, resume};
 pub use promise::Answer;
 pub use seat::{Seat, State};

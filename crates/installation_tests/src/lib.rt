@@ -5,7 +5,7 @@
 mod tests {
     use fabrics::LinkMap;
     use faults::Fault;
-    use installation::{Answer, Batch, Call, Line, Outcome, Seat, State, perform};
+    use installation::{Answer, Batch, Call, Line, Memory, Outcome, perform};
     use network::{Change, Ends, LinkState, Node};
     use planner::Tables;
     use std::process::Abort;
@@ -43,16 +43,6 @@ mod tests {
         }
     }
 
-    // Ends a player that is left.
-    fn ended(state: State) -> u32 {
-        let State { seat, slot: _ } = state;
-        match seat {
-            Seat::Free => 0,
-            Seat::Still(player) => player.finish(),
-            Seat::Moving(player) => player.abandon().0,
-        }
-    }
-
     // The changes of the plant: those of the first plan, and the way back to the start as a second.
     fn changes() -> [Change<Cost>; 9] {
         [
@@ -85,17 +75,20 @@ mod tests {
             links: &mut links,
             tree: &mut tree,
         };
+        let mut memory = Memory {
+            plans: &mut plans,
+            changes: &changes(),
+            start: &mut start,
+            entries: &mut entries,
+            work: &mut work,
+        };
         let Outcome { tables: _, state } = perform::<Cost, LinkMap<'_>>(
             tables,
-            &mut plans,
-            &changes(),
-            &mut start,
-            &mut entries,
-            &mut work,
+            &mut memory,
             &mut map,
             log,
         );
-        ended(state);
+        let _ = state.end();
         assert_eq!(rt; log.len(), expected.len());
         for (line, wanted) in log.iter().zip(expected) {
             assert_eq!(rt; short(line.answer), *wanted);
@@ -103,35 +96,28 @@ mod tests {
         assert_eq!(rt; bytes, carrying);
     }
 
-    // A call that is yet to be made.
-    fn ask(call: Call) -> Line {
-        Line {
-            call,
-            answer: Answer::NotMade,
-        }
-    }
-
-    fn draw(from: usize, to: usize, slot: usize) -> Line {
-        ask(Call::Draw(Batch { from, to, slot }))
+    fn draw(from: usize, to: usize, slot: usize) -> Call {
+        Call::Draw(Batch { from, to, slot })
     }
 
     #[test]
     fn all_nine_calls(rt: HostRuntime) {
         let mut log = [
-            ask(Call::Open),
+            Call::Open,
             draw(0, 5, 0),
-            ask(Call::Lay(0)),
-            ask(Call::Forward),
-            ask(Call::Join),
-            ask(Call::Forward),
-            ask(Call::Cancel),
-            ask(Call::Backward),
-            ask(Call::Join),
-            ask(Call::Finish),
-            ask(Call::Lay(0)),
-            ask(Call::Forward),
-            ask(Call::Abandon),
-        ];
+            Call::Lay(0),
+            Call::Forward,
+            Call::Join,
+            Call::Forward,
+            Call::Cancel,
+            Call::Backward,
+            Call::Join,
+            Call::Finish,
+            Call::Lay(0),
+            Call::Forward,
+            Call::Abandon,
+        ]
+        .map(Line::new);
         performed(
             &rt,
             4,
@@ -146,17 +132,18 @@ mod tests {
     fn not_made(rt: HostRuntime) {
         let mut log = [
             draw(0, 5, 0),
-            ask(Call::Lay(0)),
-            ask(Call::Join),
-            ask(Call::Open),
-            ask(Call::Open),
-            ask(Call::Forward),
-            ask(Call::Lay(0)),
+            Call::Lay(0),
+            Call::Join,
+            Call::Open,
+            Call::Open,
+            Call::Forward,
+            Call::Lay(0),
             draw(0, 5, 2),
             draw(3, 2, 0),
             draw(0, 10, 0),
-            ask(Call::Finish),
-        ];
+            Call::Finish,
+        ]
+        .map(Line::new);
         performed(
             &rt,
             4,
@@ -170,21 +157,22 @@ mod tests {
     #[test]
     fn second_plan(rt: HostRuntime) {
         let mut log = [
-            ask(Call::Open),
+            Call::Open,
             draw(0, 1, 0),
-            ask(Call::Lay(0)),
+            Call::Lay(0),
             draw(6, 7, 0),
             draw(6, 7, 1),
-            ask(Call::Forward),
-            ask(Call::Join),
-            ask(Call::Forward),
-            ask(Call::Finish),
-            ask(Call::Lay(0)),
-            ask(Call::Lay(1)),
-            ask(Call::Forward),
-            ask(Call::Join),
-            ask(Call::Finish),
-        ];
+            Call::Forward,
+            Call::Join,
+            Call::Forward,
+            Call::Finish,
+            Call::Lay(0),
+            Call::Lay(1),
+            Call::Forward,
+            Call::Join,
+            Call::Finish,
+        ]
+        .map(Line::new);
         performed(
             &rt,
             4,
@@ -197,18 +185,19 @@ mod tests {
     // Refusals of open, draw and lay change nothing.
     #[test]
     fn refused(rt: HostRuntime) {
-        let mut log = [ask(Call::Open), ask(Call::Open), draw(0, 5, 0)];
+        let mut log = [Call::Open, Call::Open, draw(0, 5, 0)].map(Line::new);
         performed(&rt, 0, &mut log, &[10, 10, 0], [0, 0, 0, 0, 0]);
-        let mut log = [ask(Call::Open), draw(0, 5, 0)];
+        let mut log = [Call::Open, draw(0, 5, 0)].map(Line::new);
         performed(&rt, 5, &mut log, &[12, 0], [0, 0, 0, 0, 0]);
         let mut log = [
-            ask(Call::Open),
+            Call::Open,
             draw(7, 8, 0),
-            ask(Call::Lay(0)),
+            Call::Lay(0),
             draw(0, 5, 0),
-            ask(Call::Lay(1)),
-            ask(Call::Lay(0)),
-        ];
+            Call::Lay(1),
+            Call::Lay(0),
+        ]
+        .map(Line::new);
         performed(&rt, 4, &mut log, &[1, 22, 0, 139, 0, 1], [1, 1, 1, 0, 0]);
     }
 }

@@ -6,7 +6,7 @@ mod rates;
 
 use fabric_tests::BitMap;
 use faults::Fault;
-use installation::{Answer, Batch, Call, Line, Outcome, Seat, State, perform};
+use installation::{Answer, Batch, Call, Line, Memory, Outcome, perform};
 use network::{Change, Ends, LinkState, Node};
 use planner::Tables;
 use rates::Rate;
@@ -28,45 +28,49 @@ fn main(rt: HostRuntime) -> io::Result<()> {
     let mut words = [0u32; 1];
     let mut switch = BitMap::blank(3, &mut words);
     let mut log = [
-        ask(Call::Open),
-        ask(Call::Draw(Batch {
+        Call::Open,
+        Call::Draw(Batch {
             from: 0,
             to: 2,
             slot: 0,
-        })),
-        ask(Call::Lay(0)),
-        ask(Call::Forward),
-        ask(Call::Join),
-        ask(Call::Draw(Batch {
+        }),
+        Call::Lay(0),
+        Call::Forward,
+        Call::Join,
+        Call::Draw(Batch {
             from: 2,
             to: 3,
             slot: 1,
-        })),
-        ask(Call::Forward),
-        ask(Call::Join),
-        ask(Call::Finish),
-        ask(Call::Lay(1)),
-        ask(Call::Forward),
-        ask(Call::Join),
-        ask(Call::Finish),
-    ];
+        }),
+        Call::Forward,
+        Call::Join,
+        Call::Finish,
+        Call::Lay(1),
+        Call::Forward,
+        Call::Join,
+        Call::Finish,
+    ]
+    .map(Line::new);
     let tables = Tables {
         n: 3,
         ends: &ends,
         links: &mut links,
         tree: &mut tree,
     };
+    let mut memory = Memory {
+        plans: &mut plans,
+        changes: &changes,
+        start: &mut start,
+        entries: &mut entries,
+        work: &mut work,
+    };
     let Outcome { tables: _, state } = perform::<Rate, BitMap<'_>>(
         tables,
-        &mut plans,
-        &changes,
-        &mut start,
-        &mut entries,
-        &mut work,
+        &mut memory,
         &mut switch,
         &mut log,
     );
-    end(state);
+    let _ = state.end();
     for line in log.iter() {
         tell(&rt, line.answer)?;
     }
@@ -84,28 +88,6 @@ fn at(rate: u32) -> LinkState<Rate> {
     LinkState {
         weight: Rate(rate),
         present: true,
-    }
-}
-
-/// A call that is yet to be made.
-fn ask(call: Call) -> Line {
-    Line {
-        call,
-        answer: Answer::NotMade,
-    }
-}
-
-/// Ends the player, if there is one.
-fn end(state: State) {
-    let State { seat, slot: _ } = state;
-    match seat {
-        Seat::Free => {}
-        Seat::Still(player) => {
-            let _ = player.finish();
-        }
-        Seat::Moving(player) => {
-            let _ = player.abandon();
-        }
     }
 }
 

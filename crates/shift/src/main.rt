@@ -5,10 +5,9 @@
 use anyhow::anyhow;
 use fabrics::{Fabric, LinkMap};
 use faults::Fault;
-use installation::{Answer, Batch, Call, Line, Seat, State, resume};
-use network::{Change, Ends, LinkState};
+use installation::{Answer, Batch, Call, Line, Memory, Seat, State, resume};
 use plan_lines::{Refusal, text_refusal};
-use planner::{Book, Drawn, Tables};
+use planner::{Book, Tables};
 use plant_text::{Plant, Room, read_plant};
 use ports::PortTable;
 use std::alloc::{AllocError, Global};
@@ -22,84 +21,48 @@ const ENOUGH: u64 = 4097;
 fn main(rt: HostRuntime) -> anyhow::Result<()> {
     let mut input = Vec::new(rt.alloc());
     rt.stdin().take(ENOUGH).read_to_end(&mut input)?;
-    for ports in [false, true] {
-        let room = Room::reserve(rt.alloc())?;
-        match read_plant(room, input.as_slice()) {
-            Ok(Plant::Costs(plant)) => on_fabric(&rt, plant, ports)?,
-            Ok(Plant::Classes(plant)) => on_fabric(&rt, plant, ports)?,
-            Err(fault) => return refuse(&rt, text_refusal(fault)),
-        }
+    let room = Room::reserve(rt.alloc())?;
+    match read_plant(room, input.as_slice()) {
+        Ok(Plant::Costs(plant)) => on_both(&rt, &plant),
+        Ok(Plant::Classes(plant)) => on_both(&rt, &plant),
+        Err(fault) => refuse(&rt, text_refusal(fault)),
     }
-    Ok(())
 }
 
-/// Plays a plant's changes on a blank port table or a blank link map.
-fn on_fabric<W: Weight>(
-    rt: &HostRuntime,
-    plant: plant_text::Tables<W>,
-    ports: bool,
-) -> anyhow::Result<()> {
-    let plant_text::Tables {
-        n,
-        ends,
-        links,
-        link_lines,
-        changes,
-        change_lines: _,
-    } = plant;
-    let mut links = links;
-    let m = links.len();
-    let size = (n as usize)
-        .saturating_mul(2)
-        .saturating_add(m.saturating_mul(4));
+/// Plays a plant's changes on a blank link map, and then on a blank port table.
+fn on_both<W: Weight>(rt: &HostRuntime, plant: &plant_text::Tables<W>) -> anyhow::Result<()> {
+    let nodes = plant.n as usize;
+    let m = plant.links.len();
+    let size = nodes.saturating_mul(2).saturating_add(m.saturating_mul(4));
     let mut bytes = vec![in rt.alloc(); 0u8; size]?;
-    if ports {
-        println!(rt; "PORT TABLE")?;
-        let mut table = PortTable::blank(n, ends.as_slice(), bytes.as_mut_slice());
-        play(
-            rt,
-            n,
-            ends.as_slice(),
-            links.as_mut_slice(),
-            changes.as_slice(),
-            &mut table,
-        )
-    } else {
-        println!(rt; "LINK MAP")?;
-        let mut map = LinkMap::blank(m.min(u32::MAX as usize) as u32, bytes.as_mut_slice());
-        play(
-            rt,
-            n,
-            ends.as_slice(),
-            links.as_mut_slice(),
-            changes.as_slice(),
-            &mut map,
-        )
-    }
+    println!(rt; "LINK MAP")?;
+    let m = u32::try_from(m).unwrap_or(u32::MAX);
+    let mut map = LinkMap::blank(m, bytes.as_mut_slice());
+    play(rt, plant, &mut map)?;
+    println!(rt; "PORT TABLE")?;
+    let mut table = PortTable::blank(plant.n, plant.ends.as_slice(), bytes.as_mut_slice());
+    play(rt, plant, &mut table)
 }
 
-/// Opens, draws, lays, and plays forward to the end and back.
+/// Opens a plant's network, and plays its changes on a fabric.
 fn play<W: Weight, F: Fabric>(
     rt: &HostRuntime,
-    n: u32,
-    ends: &[Ends],
-    links: &mut [LinkState<W>],
-    changes: &[Change<W>],
+    plant: &plant_text::Tables<W>,
     fabric: &mut F,
 ) -> anyhow::Result<()> {
-    let k = changes.len();
-    let size = (n as usize).saturating_add(ends.len()).saturating_add(k);
-    let mut tree = vec![in rt.alloc(); 0u32; n as usize]?;
-    let mut start = vec![in rt.alloc(); 0u32; n as usize]?;
+    let nodes = plant.n as usize;
+    let k = plant.changes.len();
+    let size = nodes.saturating_add(plant.ends.len()).saturating_add(k);
+    let mut links = plant.links.as_slice().to_vec(rt.alloc())?;
+    let mut tree = vec![in rt.alloc(); 0u32; nodes]?;
+    let mut plans = [None];
+    let mut start = vec![in rt.alloc(); 0u32; nodes]?;
     let mut entries = vec![in rt.alloc(); (0u32, 0u32); k]?;
     let mut work = vec![in rt.alloc(); 0u32; size.saturating_mul(64)]?;
-    let none: Option<Drawn> = None;
-    let mut plans = vec![in rt.alloc(); none; 1]?;
-    let calls = calls_of(rt.alloc(), k)?;
     let tables = Tables {
-        n,
-        ends,
-        links,
+        n: plant.n,
+        ends: plant.ends.as_slice(),
+        links: links.as_mut_slice(),
         tree: tree.as_mut_slice(),
     };
     let mut book = Book::open(tables, work.as_mut_slice());
@@ -107,40 +70,38 @@ fn play<W: Weight, F: Fabric>(
         println!(rt; "open: refused {}", Fault::from(fault).code)?;
         return Err(anyhow!("refused"));
     }
+    let mut memory = Memory {
+        plans: &mut plans,
+        changes: plant.changes.as_slice(),
+        start: start.as_mut_slice(),
+        entries: entries.as_mut_slice(),
+        work: work.as_mut_slice(),
+    };
+    make_calls(rt, &mut book, &mut memory, fabric)
+}
+
+/// Draws, lays, and plays forward to the end and back.
+fn make_calls<W: Weight, F: Fabric>(
+    rt: &HostRuntime,
+    book: &mut Book<W>,
+    memory: &mut Memory<W>,
+    fabric: &mut F,
+) -> anyhow::Result<()> {
+    let calls = calls_of(rt.alloc(), memory.changes.len())?;
     let mut state = State {
         seat: Seat::Free,
         slot: 0,
     };
-    let mut tally = Tally {
-        granted: 0,
-        refused: 0,
-    };
-    let mut step = Step {
-        to: 0,
-        leaving: 0,
-        coming: 0,
-    };
+    let mut tally = Tally::default();
+    let mut step = Step::default();
     for call in calls.as_slice() {
-        step = step_of(*call, step, entries.as_slice());
-        let mut log = [Line {
-            call: *call,
-            answer: Answer::NotMade,
-        }];
-        state = resume::<W, F>(
-            state,
-            &mut book,
-            plans.as_mut_slice(),
-            changes,
-            start.as_mut_slice(),
-            entries.as_mut_slice(),
-            work.as_mut_slice(),
-            fabric,
-            &mut log,
-        );
+        step = step.after(*call, memory.entries);
+        let mut log = [Line::new(*call)];
+        state = resume::<W, F>(state, book, memory, fabric, &mut log);
         tally.count(log[0].answer);
         let _ = tell(rt, log[0], step, fabric);
     }
-    end(state);
+    let _ = state.end();
     println!(rt;
         "{} calls granted, {} refused or not made",
         tally.granted, tally.refused
@@ -149,7 +110,7 @@ fn play<W: Weight, F: Fabric>(
 }
 
 /// How many calls were granted, and how many were not.
-#[derive(Drop)]
+#[derive(Drop, Default)]
 struct Tally {
     granted: u32,
     refused: u32,
@@ -162,20 +123,6 @@ impl Tally {
                 self.refused = self.refused.saturating_add(1);
             }
             _ => self.granted = self.granted.saturating_add(1),
-        }
-    }
-}
-
-/// Ends the player, if there is one.
-fn end(state: State) {
-    let State { seat, slot: _ } = state;
-    match seat {
-        Seat::Free => {}
-        Seat::Still(player) => {
-            let _ = player.finish();
-        }
-        Seat::Moving(player) => {
-            let _ = player.abandon();
         }
     }
 }
@@ -201,102 +148,95 @@ fn calls_of(heap: Global, k: usize) -> Result<Vec<Call>, AllocError> {
     Ok(calls)
 }
 
-/// A step of the plan: the moment that it leads to, and its leaving and its coming link; 0 stands for none.
-#[derive(Clone, Copy)]
+/// A step of the plan: the moment that it leads to, and the links that leave and come.
+#[derive(Clone, Copy, Default)]
 struct Step {
     to: usize,
-    leaving: u32,
-    coming: u32,
+    leaving: Option<u32>,
+    coming: Option<u32>,
 }
 
-/// The step that is under way after a call: forward and backward begin one where the last one led to. Backward leads to the
-/// moment before, leaving and coming exchanged.
-fn step_of(call: Call, last: Step, entries: &[(u32, u32)]) -> Step {
-    match call {
-        Call::Forward => {
-            let (leaving, coming) = entries.get(last.to).copied().unwrap_or((0, 0));
-            Step {
-                to: last.to.saturating_add(1),
-                leaving,
-                coming,
+impl Step {
+    /// The step that is under way after a call: forward and backward begin one where the last one led to. Backward leads
+    /// to the moment before, leaving and coming exchanged.
+    fn after(self, call: Call, entries: &[(u32, u32)]) -> Step {
+        match call {
+            Call::Forward => {
+                let (leaving, coming) = links_of(entries, self.to);
+                Step {
+                    to: self.to.saturating_add(1),
+                    leaving,
+                    coming,
+                }
             }
-        }
-        Call::Backward => {
-            let to = last.to.saturating_sub(1);
-            let (coming, leaving) = entries.get(to).copied().unwrap_or((0, 0));
-            Step {
-                to,
-                leaving,
-                coming,
+            Call::Backward => {
+                let to = self.to.saturating_sub(1);
+                let (coming, leaving) = links_of(entries, to);
+                Step {
+                    to,
+                    leaving,
+                    coming,
+                }
             }
+            _ => self,
         }
-        _ => last,
     }
+}
+
+/// The links of an entry of the plan, in which 0 stands for none.
+fn links_of(entries: &[(u32, u32)], change: usize) -> (Option<u32>, Option<u32>) {
+    let (leaving, coming) = entries.get(change).copied().unwrap_or((0, 0));
+    (
+        (leaving != 0).then_some(leaving),
+        (coming != 0).then_some(coming),
+    )
 }
 
 /// Prints a granted call of a player.
 fn tell_step(rt: &HostRuntime, call: Call, step: Step) -> io::Result<()> {
-    let name = name_of(call);
     match call {
         Call::Forward | Call::Backward => {
-            print!(rt; "{name} to {}: {} leaves;", step.to, Named(step.leaving))
+            print!(rt; "{call} to {}: {} leaves;", step.to, Named(step.leaving))
         }
-        Call::Join => print!(rt; "{name}: {} comes;", Named(step.coming)),
-        _ => print!(rt; "{name}: granted;"),
+        Call::Join => print!(rt; "{call}: {} comes;", Named(step.coming)),
+        _ => print!(rt; "{call}: granted;"),
     }
 }
 
-/// A link by its number; 0 is nothing.
+/// A link by its number, or nothing.
 #[derive(Drop)]
-struct Named(u32);
+struct Named(Option<u32>);
 
 impl fmt::Display for Named {
     fn fmt<W: fmt::Write>(&self, f: &mut fmt::Formatter<W>) -> fmt::Result {
-        let link = self.0;
-        if link == 0 {
-            return write!(f, "nothing");
+        match self.0 {
+            Some(link) => write!(f, "{link}"),
+            None => write!(f, "nothing"),
         }
-        write!(f, "{link}")
     }
 }
 
 /// Prints a call, what it answered, and which links carry.
 fn tell<F: Fabric>(rt: &HostRuntime, line: Line, step: Step, fabric: &F) -> io::Result<()> {
-    let name = name_of(line.call);
-    match line.answer {
-        Answer::NotMade => print!(rt; "{name}: not made;")?,
-        Answer::Opened => print!(rt; "{name}: granted;")?,
-        Answer::NotOpened(fault) => print!(rt; "{name}: refused {};", Fault::from(fault).code)?,
-        Answer::Drew(drawn) => print!(rt; "{name}: {} changes, work {};", drawn.k, drawn.work)?,
-        Answer::NotDrawn(fault) => print!(rt; "{name}: refused {};", Fault::from(fault).code)?,
-        Answer::Granted => tell_step(rt, line.call, step)?,
-        Answer::Refused(fault) => print!(rt; "{name}: refused {};", Fault::from(fault).code)?,
-        Answer::Abandoned(leaving, coming) => print!(rt; "{name}: {leaving} {coming};")?,
-        Answer::Finished(t) => print!(rt; "{name}: after {t} changes;")?,
+    let Line { call, answer } = line;
+    match answer {
+        Answer::NotMade => print!(rt; "{call}: not made;")?,
+        Answer::Opened => print!(rt; "{call}: granted;")?,
+        Answer::NotOpened(fault) => print!(rt; "{call}: refused {};", Fault::from(fault).code)?,
+        Answer::Drew(drawn) => print!(rt; "{call}: {} changes, work {};", drawn.k, drawn.work)?,
+        Answer::NotDrawn(fault) => print!(rt; "{call}: refused {};", Fault::from(fault).code)?,
+        Answer::Granted => tell_step(rt, call, step)?,
+        Answer::Refused(fault) => print!(rt; "{call}: refused {};", Fault::from(fault).code)?,
+        Answer::Abandoned(leaving, coming) => print!(rt; "{call}: {leaving} {coming};")?,
+        Answer::Finished(t) => print!(rt; "{call}: after {t} changes;")?,
     }
     print!(rt; " carrying")?;
-    for i in 0..fabric.size() {
-        let link = i.saturating_add(1);
+    for link in 1..=fabric.size() {
         if let Ok(true) = fabric.look(link) {
             print!(rt; " {link}")?;
         }
     }
     println!(rt; "")
-}
-
-/// A call by its name.
-fn name_of(call: Call) -> &'static str {
-    match call {
-        Call::Open => "open",
-        Call::Draw(_) => "draw",
-        Call::Lay(_) => "lay",
-        Call::Forward => "forward",
-        Call::Backward => "backward",
-        Call::Join => "join",
-        Call::Cancel => "cancel",
-        Call::Abandon => "abandon",
-        Call::Finish => "finish",
-    }
 }
 
 /// Prints a refusal, and ends as one.

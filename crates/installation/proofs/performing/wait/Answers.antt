@@ -1,25 +1,16 @@
-use Rattle.std.proofs.Common.{◌≡◌, ℕ, ◌+◌, ◌<◌, List, [], ◌∷◌, ◌++◌, length, get_or, take, sym, refl, ◌∙◌, subst, arith}
+use Rattle.std.proofs.Common.{◌+◌, ◌<◌, ◌≤◌, List, [], ◌∷◌, ◌++◌, length, get_or, take, sym, refl, ◌∙◌, subst, arith}
+use Rattle.std.proofs.lemmas.List.{length-map, take_all}
 use Rattle.promise.specs.declared.answer.Answer.{Answer}
 use Rattle.promise.specs.declared.answer.Answer.TheVariants.{NotMade}
 use Rattle.installation.specs.declared.call.Call.{Call}
+use Rattle.installation.specs.declared.call.Line.{Line}
 use Rattle.installation.specs.Perform.{fresh, calls, answers, Turns, done}
-use Rattle.installation.proofs.Logs.{blank, noted, calls-noted, answers-noted, call-is, calls-on}
+use Rattle.installation.proofs.Logs.{blank, noted, calls-noted, answers-noted, calls-on}
 use Rattle.installation.proofs.Held.{turns-on, new-waits}
 use Rattle.installation.proofs.performing.wait.Goals as goal
 
 pub loop-i-init : goal.loop-i-init
 loop-i-init g c = (refl, λ t f. done)
-
-pub returns-in-Open : goal.returns-in-Open
-returns-in-Open g c =
-    let l = c.loop-i in
-    let h : l.i < length l.log = let k = l.auto.log in let t = c.loop-i-test.true in omega arith in
-    record {
-      within = let k = l.auto.log in omega arith;
-      first = λ _. sym (call-is l.log c.args.log.now l.i h l.invariant.0) ∙ c.in-Open.is;
-      log = l.invariant.0;
-      run = l.invariant.1;
-    }
 
 pub loop-i-preserved : goal.loop-i-preserved
 loop-i-preserved g c =
@@ -37,16 +28,13 @@ loop-i-preserved g c =
           (subst (λ (z : List Answer). Turns side carrying t (fresh t f) (take i (calls old) ++ (get_or log i blank).call ∷ []) z (fresh t f)) (sym (answers-noted log i NotMade h)) x),
     )
 
-pub returns : goal.returns
-returns g c =
+pub returns-clause-run : goal.returns-clause-run
+returns-clause-run g c = λ t f.
     let l = c.loop-i in
-    let k = l.auto.log in
-    let n : l.i ≡ length l.log = let p = l.auto.i-end in let q = c.loop-i-test.false in omega arith in
-    record {
-      within = omega arith;
-      first = λ h. absurd (omega arith);
-      log = l.invariant.0;
-      run = λ t f.
-          subst (λ (z : ℕ). Turns g.W.Ordered.side g.F.Fabric.carrying t (fresh t f) (take z (calls c.args.log.now)) (take z (answers l.log)) (fresh t f)) n
-          (l.invariant.1 t f);
-    }
+    let old = c.args.log.now in
+    let n : length l.log ≤ l.i = let k = l.auto.log in let q = c.loop-i-test.false in omega arith in
+    let o : length old ≤ l.i = let k = l.auto.log in omega arith in
+    let a = take_all l.i (calls old) (let e = length-map old (λ (x : Line). x.call) in omega arith) in
+    let b = take_all l.i (answers l.log) (let e = length-map l.log (λ (x : Line). x.answer) in omega arith) in
+    subst (λ (z : List Call). Turns g.W.Ordered.side g.F.Fabric.carrying t (fresh t f) z (answers l.log) (fresh t f)) a
+    (subst (λ (z : List Answer). Turns g.W.Ordered.side g.F.Fabric.carrying t (fresh t f) (take l.i (calls old)) z (fresh t f)) b (l.invariant.1 t f))
