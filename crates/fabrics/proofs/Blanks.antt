@@ -1,8 +1,9 @@
 -- Memory whose first bytes are set to 0, and the link map that it makes.
-use Rattle.std.proofs.Common.{◌≡◌, ℕ, ◌-◌, ◌<◌, ◌≤◌, Bool, true, false, cond, eqb, ltb, List, ◌++◌, length, get_or, drop, replicate, is_some, Some, None, Option, sym, refl, ap, ◌∙◌, subst, arith}
+use Rattle.std.proofs.Common.{◌≡◌, ℕ, ◌<◌, ◌≤◌, Bool, true, false, cond, eqb, ltb, List, length, get_or, drop, replicate, Some, None, Option, Ok, sym, refl, ap, ◌∙◌, subst, arith}
 use Rattle.std.proofs.lemmas.List.{get_or_append_left, get_or-replicate, length-replicate, length-append, length-drop, ext_get_or}
 use Rattle.std.proofs.lemmas.Bool.{ltb-false}
 use Rattle.fabrics.specs.Blank.{blanked, Begins}
+use Rattle.network.specs.Ends.{unless}
 use Rattle.fabrics.specs.Map.{flags, map_fault}
 use Rattle.fabrics.proofs.Flags.{length-flags, flag_at}
 
@@ -11,15 +12,10 @@ pub passed : {X : Type 0} (b : Bool) (f : X) (o : Option X) → cond b (Some f) 
 passed true f o e = ((cc), (cc))
 passed false f o e = (refl, e)
 
-pub no-fault : {X : Type 0} (o : Option X) → is_some o ≡ false → o ≡ None
-no-fault None e = refl
-no-fault (Some f) e = cc
-
--- A front of zeros before what follows.
-pub zeroed : (k : ℕ) (ys bs : List ℕ) → ys ≡ replicate k 0 → ys ++ drop (k - 0) bs ≡ blanked k bs
-zeroed k ys bs e =
-    let z : k - 0 ≡ k = omega arith in
-    ap (λ l. l ++ drop (k - 0) bs) e ∙ ap (λ j. replicate k 0 ++ drop j bs) z
+-- A call that refuses for a reason and did not.
+pub granted : {X E : Type 0} (o : Option E) (x : X) → Ok x ≡ unless o x → o ≡ None
+granted None x e = refl
+granted (Some f) x e = cc
 
 module _ (k : ℕ) (bs : List ℕ) where
   pub blank-at : (j : ℕ) → j < k → get_or (blanked k bs) j 0 ≡ 0
@@ -29,10 +25,10 @@ module _ (k : ℕ) (bs : List ℕ) where
   pub length-blanked : k ≤ length bs → length (blanked k bs) ≡ length bs
   length-blanked h = omega (arith, length-append (replicate k 0) (drop k bs), length-replicate {A = ℕ} k 0, length-drop k bs)
 
-module _ (m : ℕ) (bs : List ℕ) (granted : map_fault m (length bs) ≡ None) where
+module _ (m : ℕ) (bs : List ℕ) (none : map_fault m (length bs) ≡ None) where
   pub fits : m ≤ length bs
   fits =
-      let a = passed (ltb 16384 m) _ _ granted in
+      let a = passed (ltb 16384 m) _ _ none in
       let b = passed (ltb (length bs) m) _ _ a.1 in
       ltb-false (length bs) m b.0
 
@@ -47,4 +43,4 @@ module _ (m : ℕ) (bs : List ℕ) (granted : map_fault m (length bs) ≡ None) 
 
   pub begins-blank : (after : List ℕ) → after ≡ blanked m bs → Begins (map_fault m (length bs)) m m bs after (flags m after)
   begins-blank after e =
-      subst (λ o. Begins o m m bs after (flags m after)) (sym granted) (e, ap (flags m) e ∙ blank-flags)
+      subst (λ o. Begins o m m bs after (flags m after)) (sym none) (e, ap (flags m) e ∙ blank-flags)
