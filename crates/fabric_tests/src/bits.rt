@@ -63,8 +63,8 @@ impl<'a> BitMap<'a> {
         self.refusal
     }
 
-    #[tactic(auto, using(crate::proofs::Turns::flag_at))]
     /// Whether the link at place i carries.
+    #[tactic(auto, using(crate::proofs::Turns::flag_at))]
     fn is_on(&self, i: usize) -> bool
         requires { i < self.now.m }
         ensures { result ≡ slice_index_or (flags self.now.m self.now.words.now) i false }
@@ -72,8 +72,8 @@ impl<'a> BitMap<'a> {
         (self.words[i / 32] >> (i % 32)) % 2 == 1
     }
 
-    #[tactic(auto, using(crate::proofs::Turns::length_flags))]
     /// Makes a link carry, or with `on` false no longer carry: either turns its bit.
+    #[tactic(auto, using(crate::proofs::Turns::length_flags))]
     fn turn(&mut self, link: u32, on: bool) -> Result<(), FabricFault>
         ensures answer { Turns (flags self.old.m self.old.words.now) link on result (flags self.new.m self.new.words.now) }
         ensures kept { OnErr result (self.new ≡ self.old) }

@@ -14,7 +14,7 @@ use Rattle.port_layout.specs.Makes.{of_ends, table_size, table_fault, Wired}
 use Rattle.port_layout.specs.Ports.{ends_of, first_head, second_head, owner, chain_of, linked, flags, Joins, Table}
 use Rattle.port_layout.specs.Words.{word}
 use Rattle.port_layout.proofs.Kept.{settled, lists}
-use Rattle.port_layout.proofs.Tables.{length-flags, flag_at, owned_by}
+use Rattle.port_layout.proofs.Tables.{length_flags, flag_at, owned_by}
 
 is-node : (n : ℕ) (v : Node) → no_node n v ≡ false → (0 < v.0) × (v.0 ≤ n)
 is-node n v e = (grind (arith, nat_tests), grind (arith, nat_tests))
@@ -100,8 +100,8 @@ module _ (n : ℕ) (es : List Ends) (bs : List ℕ) (g : Granted n es (length bs
   blank-flags =
       let zs = blanked (table_size n (length es)) bs in
       ext_get_or false (flags n es zs) (replicate (length es) false)
-      (length-flags n es zs ∙ sym (length-replicate (length es) false))
-      (λ i l. let h : i < length es = omega (arith, length-flags n es zs) in
+      (length_flags n es zs ∙ sym (length-replicate (length es) false))
+      (λ i l. let h : i < length es = omega (arith, length_flags n es zs) in
       flag_at n es zs i h ∙ clean-first i h ∙ sym (get_or-replicate (length es) i false false h))
 
   pub wired : table_fault n es (length bs) ≡ None → Wired (table_fault n es (length bs)) n es n es

@@ -10,8 +10,8 @@ use Rattle.network.specs.declared.types.Ends.{Ends}
 use Rattle.port_layout.proofs.Kept.{lists, settled, push_kept, push-has, push-has-it, unlink-kept, unlink-has, unlink-has-it, holder-is, holder_in, above}
 use Rattle.port_layout.proofs.Puts.{pushed-rest, pushed-cell, pushed-head, unlinked-rest, unlinked-cell, unlinked-holder}
 
-pub length-flags : (n : ℕ) (es : List Ends) (bs : List ℕ) → length (flags n es bs) ≡ length es
-length-flags n es bs = length-map-range_with_len (linked n es bs) 0 (length es)
+pub length_flags : (n : ℕ) (es : List Ends) (bs : List ℕ) → length (flags n es bs) ≡ length es
+length_flags n es bs = length-map-range_with_len (linked n es bs) 0 (length es)
 
 pub flag_at : (n : ℕ) (es : List Ends) (bs : List ℕ) (i : ℕ) → i < length es → get_or (flags n es bs) i false ≡ linked n es bs i
 flag_at n es bs i h = get_or-map-range_with_len (linked n es bs) 0 (length es) i i false h (omega arith)
@@ -126,11 +126,11 @@ module _ (n : ℕ) (es : List Ends) (bs : List ℕ) (t : Table n es bs) where
 
     pub turned-flags : flags n es cs ≡ set (flags n es bs) i b
     turned-flags =
-        let lf : length (flags n es bs) ≡ length es = length-flags n es bs in
+        let lf : length (flags n es bs) ≡ length es = length_flags n es bs in
         ext_get_or false (flags n es cs) (set (flags n es bs) i b)
-        (length-flags n es cs ∙ sym (length-set (flags n es bs) i b ∙ lf))
+        (length_flags n es cs ∙ sym (length-set (flags n es bs) i b ∙ lf))
         (λ j l.
-        let jl : j < length es = omega (arith, length-flags n es cs) in
+        let jl : j < length es = omega (arith, length_flags n es cs) in
         flag_at n es cs j jl
         ∙ elim (cases_eq j i) [
           | inl e ↦ ap (linked n es cs) e ∙ turned ∙ sym (ap (λ z. get_or (set (flags n es bs) i b) z false) e ∙ get_or-set_same (flags n es bs) i b false (omega arith))

@@ -141,16 +141,19 @@ impl Fabric for PortTable<'_, '_> {
 
     ghost shape = { λ s. shape_of s.n s.ends.now s.bytes.ghost_name };
 
+    #[tactic(auto, using(port_layout::proofs::Tables::length_flags))]
     fn size(&self) -> u32 {
         self.ends.len() as u32
     }
 
+    #[tactic(auto, using(port_layout::proofs::Tables::length_flags))]
     fn look(&self, link: u32) -> Result<bool, FabricFault> {
         let i = place(self.size(), link)?;
         Ok(self.is_on(i))
     }
 
     // Not one function with disable: its flag would choose which step to run.
+    #[tactic(auto, using(port_layout::proofs::Tables::length_flags))]
     fn enable(&mut self, link: u32) -> Result<(), FabricFault>
         ensures answer { Enables (flags self.old.n self.old.ends.now self.old.bytes.now) link result (flags self.new.n self.new.ends.now self.new.bytes.now) }
         ensures kept { OnErr result (self.new ≡ self.old) }
@@ -163,6 +166,7 @@ impl Fabric for PortTable<'_, '_> {
         Ok(())
     }
 
+    #[tactic(auto, using(port_layout::proofs::Tables::length_flags))]
     fn disable(&mut self, link: u32) -> Result<(), FabricFault>
         ensures answer { Disables (flags self.old.n self.old.ends.now self.old.bytes.now) link result (flags self.new.n self.new.ends.now self.new.bytes.now) }
         ensures kept { OnErr result (self.new ≡ self.old) }
