@@ -1,71 +1,56 @@
 -- Chains of records in memory: what a walk meets, and what a push and an unlinking leave.
 use Rattle.std.proofs.Common.{◌≡◌, ℕ, zero, suc, ◌+◌, ◌-◌, ◌<◌, ◌≤◌, true, false, cond, eqb, ◌⊎◌, List, [], ◌∷◌, length, is_some, Some, None, sym, refl, ap, ◌∙◌, subst, inl, inr, arith}
 use Rattle.std.proofs.lemmas.Bool.{eq-eqb, ne_eqb, cases_Bool, cases_eq, both_ways}
+use Rattle.std.proofs.lemmas.Bool.Decides.{nat_tests}
 use Rattle.port_layout.specs.Chains.{cell, chain, has, without, holder, found, Spells, Once}
 
 -- What is in a chain.
 
 pub has-head : (r : ℕ) (xs : List ℕ) → has r (r ∷ xs) ≡ true
-has-head r xs = ap (λ b. cond b true (has r xs)) (eq-eqb r r refl)
+has-head r xs = grind (arith, nat_tests)
 
 pub has-tail : (r x : ℕ) (xs : List ℕ) → has r xs ≡ true → has r (x ∷ xs) ≡ true
-has-tail r x xs h = elim (eqb x r) as (λ b. cond b true (has r xs) ≡ true) [ true ↦ refl | false ↦ h ]
+has-tail r x xs h = grind (arith, nat_tests)
 
 pub has_other : (r x : ℕ) (xs : List ℕ) → (x ≡ r → ⊥) → has r (x ∷ xs) ≡ has r xs
-has_other r x xs n = ap (λ b. cond b true (has r xs)) (ne_eqb x r n)
+has_other r x xs n = grind (arith, nat_tests)
 
 pub has-not-head : (r x : ℕ) (xs : List ℕ) → has r (x ∷ xs) ≡ false → x ≡ r → ⊥
-has-not-head r x xs h e = both_ways (has r (x ∷ xs)) h (ap (λ b. cond b true (has r xs)) (eq-eqb x r e))
+has-not-head r x xs h e = grind (arith, nat_tests)
 
 pub has-apart : (xs : List ℕ) (x y : ℕ) → has x xs ≡ false → has y xs ≡ true → y ≡ x → ⊥
-has-apart xs x y f t e = both_ways (has y xs) (ap (λ z. has z xs) e ∙ f) t
+has-apart xs x y f t e = grind arith
 
 -- What is left without a record.
 
 pub without-head : (r x : ℕ) (xs : List ℕ) → x ≡ r → without r (x ∷ xs) ≡ xs
-without-head r x xs e = ap (λ b. cond b xs (x ∷ without r xs)) (eq-eqb x r e)
+without-head r x xs e = grind (arith, nat_tests)
 
 pub without_other : (r x : ℕ) (xs : List ℕ) → (x ≡ r → ⊥) → without r (x ∷ xs) ≡ x ∷ without r xs
-without_other r x xs n = ap (λ b. cond b xs (x ∷ without r xs)) (ne_eqb x r n)
+without_other r x xs n = grind (arith, nat_tests)
 
 pub length_without : (r : ℕ) (xs : List ℕ) → length xs ≤ suc (length (without r xs))
 length_without r [] = omega arith
-length_without r (x ∷ xs) =
-    let h : length xs ≤ suc (length (without r xs)) = length_without r xs in
-    elim (eqb x r) as (λ b. suc (length xs) ≤ suc (length (cond b xs (x ∷ without r xs)))) [ true ↦ omega arith | false ↦ omega arith ]
+length_without r (x ∷ xs) = grind (arith, nat_tests, length_without r xs)
 
 pub has-without : (r y : ℕ) (xs : List ℕ) → has y (without r xs) ≡ true → has y xs ≡ true
-has-without r y [] = λ h. h
-has-without r y (x ∷ xs) =
-    elim (eqb x r) as (λ b. has y (cond b xs (x ∷ without r xs)) ≡ true → has y (x ∷ xs) ≡ true) [
-      | true ↦ has-tail y x xs
-      | false ↦ elim (eqb x y) as (λ b. cond b true (has y (without r xs)) ≡ true → cond b true (has y xs) ≡ true)
-          [ true ↦ (λ _. refl) | false ↦ has-without r y xs ]
-    ]
+has-without r y [] h = h
+has-without r y (x ∷ xs) h = grind (arith, nat_tests, has-without r y xs)
 
 pub has-without-other : (r y : ℕ) (xs : List ℕ) → (y ≡ r → ⊥) → has y (without r xs) ≡ has y xs
 has-without-other r y [] n = refl
-has-without-other r y (x ∷ xs) n = elim (cases_eq x r) [
-  | inl e ↦ ap (has y) (without-head r x xs e) ∙ sym (has_other y x xs (λ d. n (sym d ∙ e)))
-  | inr d ↦ ap (has y) (without_other r x xs d) ∙ ap (λ b. cond (eqb x y) true b) (has-without-other r y xs n)
-]
+has-without-other r y (x ∷ xs) n = grind (arith, nat_tests, has-without-other r y xs n)
 
 pub has-without-self : (r : ℕ) (xs : List ℕ) → Once xs → has r (without r xs) ≡ false
 has-without-self r [] o = refl
-has-without-self r (x ∷ xs) o = elim (cases_eq x r) [
-  | inl e ↦ ap (has r) (without-head r x xs e) ∙ ap (λ z. has z xs) (sym e) ∙ o.0
-  | inr d ↦ ap (has r) (without_other r x xs d) ∙ has_other r x (without r xs) d ∙ has-without-self r xs o.1
-]
+has-without-self r (x ∷ xs) o = grind (arith, nat_tests, has-without-self r xs o.1)
 
 pub not-has-without : (r y : ℕ) (xs : List ℕ) → has y xs ≡ false → has y (without r xs) ≡ false
-not-has-without r y xs f = elim (cases_Bool (has y (without r xs)))
-    [ inl t ↦ absurd (both_ways (has y xs) f (has-without r y xs t)) | inr g ↦ g ]
+not-has-without r y xs f = grind (arith, has-without r y xs)
 
 pub once-without : (r : ℕ) (xs : List ℕ) → Once xs → Once (without r xs)
 once-without r [] o = tt
-once-without r (x ∷ xs) o =
-    elim (eqb x r) as (λ b. Once (cond b xs (x ∷ without r xs)))
-    [ true ↦ o.1 | false ↦ (not-has-without r x xs o.0, once-without r xs o.1) ]
+once-without r (x ∷ xs) o = grind (arith, nat_tests, not-has-without r x xs, once-without r xs o.1)
 
 -- As many numbers from 1 to m as differ are at most m.
 pub few : (m : ℕ) (xs : List ℕ) → Once xs → ((r : ℕ) → has r xs ≡ true → (0 < r) × (r ≤ m)) → length xs ≤ m
