@@ -6,8 +6,9 @@ use Rattle.std.proofs.lemmas.Nat.Bits.{bit_at_xor, bit_at-pow_same, bit_at-pow_o
 use Rattle.std.proofs.lemmas.List.FromFn.{length-map-range_with_len, get_or-map-range_with_len}
 use Rattle.std.proofs.lemmas.List.{length-set, get_or-set_same, get_or-set_other, ext_get_or, length-replicate, get_or-replicate}
 use Rattle.std.proofs.lemmas.Bool.{cases_eq, ltb-false}
+use Rattle.std.proofs.lemmas.Bool.Decides.{nat_tests}
 use Rattle.fabrics.specs.Blank.{blanked, Begins}
-use Rattle.fabrics.proofs.Blanks.{passed, blank-at}
+use Rattle.fabrics.proofs.Blanks.{blank-at}
 use Rattle.fabric_tests.specs.Bits.{bit, flag, flags, turned, words_for, bits_fault}
 
 flip : (d : ℕ) → d < 2 → eqb ((d + 1) % 2) 1 ≡ not (eqb d 1)
@@ -16,12 +17,10 @@ flip (suc zero) h = refl
 flip (suc (suc d)) h = absurd (omega arith)
 
 turn-self : (w j : ℕ) → bit (bit_xor w (2 ^ j)) j ≡ not (bit w j)
-turn-self w j =
-    ap (λ x. eqb x 1) (bit_at_xor w (2 ^ j) j ∙ ap (λ z. (bit_at w j + z) % 2) (bit_at-pow_same j)) ∙ flip (bit_at w j) (bit_at-lt w j)
+turn-self w j = grind (arith, nat_tests, bit_at_xor w (2 ^ j) j, bit_at-pow_same j, flip (bit_at w j) (bit_at-lt w j))
 
 turn-other : (w j i : ℕ) → (i ≡ j → ⊥) → bit (bit_xor w (2 ^ j)) i ≡ bit w i
-turn-other w j i ne =
-    ap (λ x. eqb x 1) (bit_at_xor w (2 ^ j) i ∙ ap (λ z. (bit_at w i + z) % 2) (bit_at-pow_other j i ne) ∙ omega (arith, bit_at-lt w i))
+turn-other w j i ne = grind (arith, nat_tests, bit_at_xor w (2 ^ j) i, bit_at-pow_other j i ne, bit_at-lt w i)
 
 not-not : (b : Bool) → not (not b) ≡ b
 not-not true = refl
@@ -75,10 +74,7 @@ module _ (ws : List ℕ) (i : ℕ) (room : i < 32 * length ws) where
 -- Blank words.
 module _ (m : ℕ) (ws : List ℕ) (none : bits_fault m (length ws) ≡ None) where
   room : words_for m ≤ length ws
-  room =
-      let a = passed (ltb 16384 m) _ _ none in
-      let b = passed (ltb (length ws) (words_for m)) _ _ a.1 in
-      ltb-false (length ws) (words_for m) b.0
+  room = grind (arith, nat_tests)
 
   zero_flag : (i : ℕ) → i < m → flag (blanked (words_for m) ws) i ≡ false
   zero_flag i h = ap (λ w. bit w (i % 32)) (blank-at (words_for m) ws (i / 32) (omega arith)) ∙ ap (λ x. eqb x 1) (bit_at-zero (i % 32))

@@ -8,11 +8,6 @@ use Rattle.network.specs.Ends.{unless}
 use Rattle.fabrics.specs.Map.{flags, map_fault}
 use Rattle.fabrics.proofs.Flags.{length-flags, flag_at}
 
--- A test that refuses and did not.
-pub passed : {X : Type 0} (b : Bool) (f : X) (o : Option X) → cond b (Some f) o ≡ None → (b ≡ false) × (o ≡ None)
-passed true f o e = ((cc), (cc))
-passed false f o e = (refl, e)
-
 -- A call that refuses for a reason and did not.
 pub granted : {X E : Type 0} (o : Option E) (x : X) → Ok x ≡ unless o x → o ≡ None
 granted None x e = refl

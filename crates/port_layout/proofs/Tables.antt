@@ -3,6 +3,7 @@ use Rattle.std.proofs.Common.{◌≡◌, ℕ, ◌+◌, ◌-◌, ◌*◌, ◌/◌
 use Rattle.std.proofs.lemmas.Bool.{eq-eqb, ne_eqb, cases_eq}
 use Rattle.std.proofs.lemmas.List.{length-set, get_or-set_same, get_or-set_other, ext_get_or}
 use Rattle.std.proofs.lemmas.List.FromFn.{length-map-range_with_len, get_or-map-range_with_len}
+use Rattle.std.proofs.lemmas.Bool.Decides.{nat_tests}
 use Rattle.port_layout.specs.Chains.{cell, has, without, holder, Kept}
 use Rattle.port_layout.specs.Words.{word, pushed, unlinked}
 use Rattle.port_layout.specs.Ports.{ends_of, first_head, second_head, owner, chain_of, linked, flags, Joins, Table, front, back}
@@ -19,18 +20,10 @@ flag_at n es bs i h = get_or-map-range_with_len (linked n es bs) 0 (length es) i
 -- Whose a record is.
 module _ (es : List Ends) where
   pub owner-first : (i : ℕ) → owner es (2 * i + 1) ≡ first_head es i
-  owner-first i =
-      let o : (2 * i + 1) % 2 ≡ 1 = omega arith in
-      let q : (2 * i + 1 - 1) / 2 ≡ i = omega arith in
-      ap (λ b. cond b (first_head es ((2 * i + 1 - 1) / 2)) (second_head es ((2 * i + 1 - 1) / 2))) (eq-eqb ((2 * i + 1) % 2) 1 o)
-      ∙ ap (first_head es) q
+  owner-first i = grind (arith, nat_tests)
 
   pub owner-second : (i : ℕ) → owner es (2 * i + 2) ≡ second_head es i
-  owner-second i =
-      let o : (2 * i + 2) % 2 ≡ 1 → ⊥ = λ e. omega arith in
-      let q : (2 * i + 2 - 1) / 2 ≡ i = omega arith in
-      ap (λ b. cond b (first_head es ((2 * i + 2 - 1) / 2)) (second_head es ((2 * i + 2 - 1) / 2))) (ne_eqb ((2 * i + 2) % 2) 1 o)
-      ∙ ap (second_head es) q
+  owner-second i = grind (arith, nat_tests)
 
 -- One step: record r comes to be in its chain, or not, and the others stay.
 pub record Step (n m : ℕ) (own : ℕ → ℕ) (w' : ℕ → ℕ) (K K' : ℕ → List ℕ) (r : ℕ) (b : Bool) : Type 0 where
