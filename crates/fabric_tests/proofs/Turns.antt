@@ -1,66 +1,34 @@
 -- Turning one bit turns one flag.
-use Rattle.std.proofs.Common.{◌≡◌, ℕ, zero, suc, ◌+◌, ◌-◌, ◌*◌, ◌/◌, ◌%◌, ◌^◌, ◌<◌, ◌≤◌, Bool, true, false, not, eqb, ltb, List, length, get_or, set, replicate, None, sym, refl, ap, ◌∙◌, subst, inl, inr, arith}
-use native.Mathlib.Nat.{zero-div}
-use lib.Bits.{bit_xor, xor_zero_r}
-use Rattle.std.proofs.lemmas.Nat.{pow-add, pow_pos, pow_below, shl-shr, xor_shr, xor_mod, mod_below, div_below}
+use Rattle.std.proofs.Common.{◌≡◌, ℕ, zero, suc, ◌+◌, ◌*◌, ◌/◌, ◌%◌, ◌^◌, ◌<◌, ◌≤◌, Bool, true, false, not, eqb, ltb, List, length, get_or, set, replicate, None, sym, refl, ap, ◌∙◌, subst, inl, inr, arith}
+use lib.Bits.{bit_xor}
+use Rattle.std.specs.Int.{bit_at}
+use Rattle.std.proofs.lemmas.Nat.Bits.{bit_at_xor, bit_at-pow_same, bit_at-pow_other, bit_at-zero, bit_at-lt}
 use Rattle.std.proofs.lemmas.List.FromFn.{length-map-range_with_len, get_or-map-range_with_len}
 use Rattle.std.proofs.lemmas.List.{length-set, get_or-set_same, get_or-set_other, ext_get_or, length-replicate, get_or-replicate}
-use Rattle.std.proofs.lemmas.Bool.{cases_eq, cases_lt, ltb-false}
+use Rattle.std.proofs.lemmas.Bool.{cases_eq, ltb-false}
+use Rattle.std.proofs.lemmas.Bool.Decides.{nat_tests}
 use Rattle.fabrics.specs.Blank.{blanked, Begins}
-use Rattle.fabrics.proofs.Blanks.{passed, blank-at, length-blanked}
+use Rattle.fabrics.proofs.Blanks.{blank-at}
 use Rattle.fabric_tests.specs.Bits.{bit, flag, flags, turned, words_for, bits_fault}
 
--- A digit after an exclusive or.
-digit-xor : (w v j : ℕ) → bit_xor w v / 2 ^ j % 2 ≡ bit_xor (w / 2 ^ j % 2) (v / 2 ^ j % 2)
-digit-xor w v j = ap (λ x. x % 2) (xor_shr w v j) ∙ xor_mod (w / 2 ^ j) (v / 2 ^ j) 1
-
--- The digits of 2 ^ j: 1 at j, 0 elsewhere.
-power-self : (j : ℕ) → 2 ^ j / 2 ^ j % 2 ≡ 1
-power-self j =
-    let e : 1 * 2 ^ j ≡ 2 ^ j = omega arith in
-    ap (λ x. x % 2) (ap (λ x. x / 2 ^ j) (sym e) ∙ shl-shr 1 j)
-
-power-other : (j i : ℕ) → (i ≡ j → ⊥) → 2 ^ j / 2 ^ i % 2 ≡ 0
-power-other j i ne = elim (cases_lt i j) [
-  | inl l ↦
-      let k : ℕ = j - i - 1 in
-      let e : (k + 1) + i ≡ j = omega arith in
-      let a : 2 ^ j ≡ 2 ^ (k + 1) * 2 ^ i = ap (λ x. 2 ^ x) (sym e) ∙ pow-add 2 (k + 1) i in
-      let b : 2 ^ j / 2 ^ i ≡ 2 ^ k * 2 = ap (λ x. x / 2 ^ i) a ∙ shl-shr (2 ^ (k + 1)) i ∙ pow-add 2 k 1 in
-      ap (λ x. x % 2) b ∙ (omega arith)
-  | inr g ↦
-      let l : 2 ^ j < 2 ^ i = pow_below j i (omega (arith, ne)) in
-      let h : 2 ^ j < 1 * 2 ^ i = omega arith in
-      let b : 2 ^ j / 2 ^ i < 1 = div_below (2 ^ j) (2 ^ i) 1 (pow_pos i) h in
-      omega (arith, b)
-]
-
-flip : (d : ℕ) → d < 2 → eqb (bit_xor d 1) 1 ≡ not (eqb d 1)
+flip : (d : ℕ) → d < 2 → eqb ((d + 1) % 2) 1 ≡ not (eqb d 1)
 flip zero h = refl
 flip (suc zero) h = refl
 flip (suc (suc d)) h = absurd (omega arith)
 
 turn-self : (w j : ℕ) → bit (bit_xor w (2 ^ j)) j ≡ not (bit w j)
-turn-self w j =
-    ap (λ x. eqb x 1) (digit-xor w (2 ^ j) j ∙ ap (bit_xor (w / 2 ^ j % 2)) (power-self j))
-    ∙ flip (w / 2 ^ j % 2) (mod_below (w / 2 ^ j) 2 (omega arith))
+turn-self w j = grind (arith, nat_tests, bit_at_xor w (2 ^ j) j, bit_at-pow_same j, flip (bit_at w j) (bit_at-lt w j))
 
 turn-other : (w j i : ℕ) → (i ≡ j → ⊥) → bit (bit_xor w (2 ^ j)) i ≡ bit w i
-turn-other w j i ne =
-    ap (λ x. eqb x 1) (digit-xor w (2 ^ j) i ∙ ap (bit_xor (w / 2 ^ i % 2)) (power-other j i ne) ∙ xor_zero_r (w / 2 ^ i % 2))
+turn-other w j i ne = grind (arith, nat_tests, bit_at_xor w (2 ^ j) i, bit_at-pow_other j i ne, bit_at-lt w i)
 
 not-not : (b : Bool) → not (not b) ≡ b
 not-not true = refl
 not-not false = refl
 
-zero_bit : (j : ℕ) → bit 0 j ≡ false
-zero_bit j =
-    let e : 0 / 2 ^ j % 2 ≡ 0 = ap (λ x. x % 2) (zero-div (2 ^ j)) in
-    ap (λ x. eqb x 1) e
-
 module _ (m : ℕ) (ws : List ℕ) where
-  pub length-flags : length (flags m ws) ≡ m
-  length-flags = length-map-range_with_len (flag ws) 0 m
+  pub length_flags : length (flags m ws) ≡ m
+  length_flags = length-map-range_with_len (flag ws) 0 m
 
   pub flag_at : (i : ℕ) → i < m → get_or (flags m ws) i false ≡ flag ws i
   flag_at i h = get_or-map-range_with_len (flag ws) 0 m i i false h (omega arith)
@@ -84,13 +52,13 @@ module _ (ws : List ℕ) (i : ℕ) (room : i < 32 * length ws) where
     | inr d ↦ ap (λ w. bit w (j % 32)) (get_or-set_other ws (i / 32) (j / 32) _ 0 d)
   ]
 
-  pub turned-flags : (m : ℕ) → i < m → (b : Bool) → flag ws i ≡ not b → flags m (turned ws i) ≡ set (flags m ws) i b
-  turned-flags m h b was =
-      let l = length-flags m ws in
+  turned-flags-to : (m : ℕ) → i < m → (b : Bool) → flag ws i ≡ not b → flags m (turned ws i) ≡ set (flags m ws) i b
+  turned-flags-to m h b was =
+      let l = length_flags m ws in
       ext_get_or false (flags m (turned ws i)) (set (flags m ws) i b)
-      (length-flags m (turned ws i) ∙ sym (length-set (flags m ws) i b ∙ l))
+      (length_flags m (turned ws i) ∙ sym (length-set (flags m ws) i b ∙ l))
       (λ j k.
-      let jm : j < m = omega (arith, length-flags m (turned ws i)) in
+      let jm : j < m = omega (arith, length_flags m (turned ws i)) in
       flag_at m (turned ws i) j jm
       ∙ elim (cases_eq j i) [
         | inl e ↦
@@ -99,26 +67,25 @@ module _ (ws : List ℕ) (i : ℕ) (room : i < 32 * length ws) where
         | inr d ↦ turned-other j d ∙ sym (get_or-set_other (flags m ws) i j b false d ∙ flag_at m ws j jm)
       ])
 
--- Blank words.
-module _ (m : ℕ) (ws : List ℕ) (granted : bits_fault m (length ws) ≡ None) where
-  room : words_for m ≤ length ws
-  room =
-      let a = passed (ltb 16384 m) _ _ granted in
-      let b = passed (ltb (length ws) (words_for m)) _ _ a.1 in
-      ltb-false (length ws) (words_for m) b.0
+  pub turned-flags : (m : ℕ) → i < m → (b : Bool) → flag ws i ≡ not b → (v : ℕ) → v ≡ 2 ^ (i % 32) →
+      flags m (set ws (i / 32) (bit_xor (get_or ws (i / 32) 0) v)) ≡ set (flags m ws) i b
+  turned-flags m h b was v e = ap (λ z. flags m (set ws (i / 32) (bit_xor (get_or ws (i / 32) 0) z))) e ∙ turned-flags-to m h b was
 
-  pub fits : (after : List ℕ) → after ≡ blanked (words_for m) ws → m ≤ 32 * length after
-  fits after e = omega (arith, room, ap length e, length-blanked (words_for m) ws room)
+-- Blank words.
+module _ (m : ℕ) (ws : List ℕ) (none : bits_fault m (length ws) ≡ None) where
+  room : words_for m ≤ length ws
+  room = grind (arith, nat_tests)
 
   zero_flag : (i : ℕ) → i < m → flag (blanked (words_for m) ws) i ≡ false
-  zero_flag i h = ap (λ w. bit w (i % 32)) (blank-at (words_for m) ws (i / 32) (omega arith)) ∙ zero_bit (i % 32)
+  zero_flag i h = ap (λ w. bit w (i % 32)) (blank-at (words_for m) ws (i / 32) (omega arith)) ∙ ap (λ x. eqb x 1) (bit_at-zero (i % 32))
 
   pub begins-blank : (after : List ℕ) → after ≡ blanked (words_for m) ws → Begins (bits_fault m (length ws)) m (words_for m) ws after (flags m after)
   begins-blank after e =
-      let none : flags m (blanked (words_for m) ws) ≡ replicate m false =
-      ext_get_or false (flags m (blanked (words_for m) ws)) (replicate m false)
-      (length-flags m (blanked (words_for m) ws) ∙ sym (length-replicate m false))
+      let zs = blanked (words_for m) ws in
+      let blank : flags m zs ≡ replicate m false =
+      ext_get_or false (flags m zs) (replicate m false)
+      (length_flags m zs ∙ sym (length-replicate m false))
       (λ i k.
-      let h : i < m = omega (arith, length-flags m (blanked (words_for m) ws)) in
-      flag_at m (blanked (words_for m) ws) i h ∙ zero_flag i h ∙ sym (get_or-replicate m i false false h)) in
-      subst (λ o. Begins o m (words_for m) ws after (flags m after)) (sym granted) (e, ap (flags m) e ∙ none)
+      let h : i < m = omega (arith, length_flags m zs) in
+      flag_at m zs i h ∙ zero_flag i h ∙ sym (get_or-replicate m i false false h)) in
+      subst (λ o. Begins o m (words_for m) ws after (flags m after)) (sym none) (e, ap (flags m) e ∙ blank)

@@ -1,11 +1,12 @@
 //! A make of a buyer's own: one bit for each link, packed in lent words of 32 bits.
 
-ghost use Rattle.std.specs.Prelude.{◌≡◌, ◌-◌, ◌*◌, ◌^◌, ◌<◌, ◌≤◌, length, OnErr, OnOk, bit_xor};
+ghost use Rattle.std.specs.Prelude.{◌≡◌, ◌-◌, ◌*◌, ◌<◌, ◌≤◌, false, length, OnErr, OnOk, slice_index_or};
 ghost use Rattle.fabrics.specs.Blank.{Begins};
-ghost use Rattle.fabrics.specs.Meaning.{Enables, Disables};
-ghost use Rattle.fabric_tests.specs.Bits.{bit, flags, turned, words_for, bits_fault, BitShape, shape_of};
+ghost use Rattle.fabrics.specs.Meaning.{Enables, Disables, Turns};
+ghost use Rattle.fabric_tests.specs.Bits.{flags, turned, words_for, bits_fault, BitShape, shape_of};
+ghost use Rattle.network.specs.Ends.{unless};
 
-use fabrics::{Fabric, place};
+use fabrics::{Fabric, check_turn, place};
 use faults::{BlankFault, FabricFault};
 use network::MAX_LINKS;
 
@@ -14,37 +15,22 @@ use network::MAX_LINKS;
 pub struct BitMap<'a> {
     m: u32,
     words: &'a mut [u32],
+    // A refused one is no Err: it holds its memory until it is let go, and as a fabric of no links takes any call.
     refusal: Option<BlankFault>,
     ghost fits: { m ≤ 32 * length words.now },
 }
 
-/// Why `len` words are refused as a fabric of m links, if they are.
-fn bits_fault(m: u32, len: usize) -> Option<BlankFault>
-    ensures { result ≡ bits_fault m len }
+/// Refuses `len` words that make no fabric of m links.
+fn check_bits(m: u32, len: usize) -> Result<(), BlankFault>
+    ensures { result ≡ unless (bits_fault m len) tt }
 {
     if m as usize > MAX_LINKS {
-        return Some(BlankFault::LinkCount);
+        return Err(BlankFault::LinkCount);
     }
-    if len < (m as usize + 31) / 32 {
-        return Some(BlankFault::ShortMemory);
+    if len < m.div_ceil(32) as usize {
+        return Err(BlankFault::ShortMemory);
     }
-    None
-}
-
-/// Whether bit j of a word is 1.
-fn is_set(word: u32, j: usize) -> bool
-    requires { j < 32 }
-    ensures { result ≡ bit word j }
-{
-    (word >> j) % 2 == 1
-}
-
-/// A word with its bit j turned.
-fn flipped(word: u32, j: usize) -> u32
-    requires { j < 32 }
-    ensures { result ≡ bit_xor word (2 ^ j) }
-{
-    word ^ (1 << j)
+    Ok(())
 }
 
 impl<'a> BitMap<'a> {
@@ -55,16 +41,19 @@ impl<'a> BitMap<'a> {
         ensures outcome { Begins (bits_fault m (length words.old)) m (words_for m) words.old result.words.now (flags result.m result.words.now) }
         ensures lent { result.words.ghost_name ≡ words.entry.ghost_name }
     {
-        let refusal = bits_fault(m, words.len());
-        if refusal.is_some() {
+        if let Err(fault) = check_bits(m, words.len()) {
             return BitMap {
                 m: 0,
                 words,
-                refusal,
+                refusal: Some(fault),
             };
         }
-        words[0..(m as usize + 31) / 32].fill(0);
-        BitMap { m, words, refusal }
+        words[..m.div_ceil(32) as usize].fill(0);
+        BitMap {
+            m,
+            words,
+            refusal: None,
+        }
     }
 
     /// Why the making of this fabric was refused, if it was.
@@ -72,6 +61,29 @@ impl<'a> BitMap<'a> {
         ensures { result ≡ self.now.refusal }
     {
         self.refusal
+    }
+
+    /// Whether the link at place i carries.
+    #[tactic(auto, using(crate::proofs::Turns::flag_at))]
+    fn is_on(&self, i: usize) -> bool
+        requires { i < self.now.m }
+        ensures { result ≡ slice_index_or (flags self.now.m self.now.words.now) i false }
+    {
+        (self.words[i / 32] >> (i % 32)) % 2 == 1
+    }
+
+    /// Makes a link carry, or with `on` false no longer carry: either turns its bit.
+    #[tactic(auto, using(crate::proofs::Turns::length_flags))]
+    fn turn(&mut self, link: u32, on: bool) -> Result<(), FabricFault>
+        ensures answer { Turns (flags self.old.m self.old.words.now) link on result (flags self.new.m self.new.words.now) }
+        ensures kept { OnErr result (self.new ≡ self.old) }
+        ensures same { shape_of self.new.m self.new.words.ghost_name ≡ shape_of self.old.m self.old.words.ghost_name }
+        ensures memory { OnOk result (self.new.words.now ≡ turned self.old.words.now (link - 1)) }
+    {
+        let i = place(self.m, link)?;
+        check_turn(link, self.is_on(i), on)?;
+        self.words[i / 32] ^= 1 << (i % 32);
+        Ok(())
     }
 }
 
@@ -82,13 +94,15 @@ impl Fabric for BitMap<'_> {
 
     ghost shape = { λ s. shape_of s.m s.words.ghost_name };
 
+    #[tactic(auto, using(crate::proofs::Turns::length_flags))]
     fn size(&self) -> u32 {
         self.m
     }
 
+    #[tactic(auto, using(crate::proofs::Turns::length_flags))]
     fn look(&self, link: u32) -> Result<bool, FabricFault> {
         let i = place(self.m, link)?;
-        Ok(is_set(self.words[i / 32], i % 32))
+        Ok(self.is_on(i))
     }
 
     fn enable(&mut self, link: u32) -> Result<(), FabricFault>
@@ -97,12 +111,7 @@ impl Fabric for BitMap<'_> {
         ensures same { shape_of self.new.m self.new.words.ghost_name ≡ shape_of self.old.m self.old.words.ghost_name }
         ensures memory { OnOk result (self.new.words.now ≡ turned self.old.words.now (link - 1)) }
     {
-        let i = place(self.m, link)?;
-        if is_set(self.words[i / 32], i % 32) {
-            return Err(FabricFault::CarriesAlready(link));
-        }
-        self.words[i / 32] = flipped(self.words[i / 32], i % 32);
-        Ok(())
+        self.turn(link, true)
     }
 
     fn disable(&mut self, link: u32) -> Result<(), FabricFault>
@@ -111,11 +120,6 @@ impl Fabric for BitMap<'_> {
         ensures same { shape_of self.new.m self.new.words.ghost_name ≡ shape_of self.old.m self.old.words.ghost_name }
         ensures memory { OnOk result (self.new.words.now ≡ turned self.old.words.now (link - 1)) }
     {
-        let i = place(self.m, link)?;
-        if !is_set(self.words[i / 32], i % 32) {
-            return Err(FabricFault::CarriesNot(link));
-        }
-        self.words[i / 32] = flipped(self.words[i / 32], i % 32);
-        Ok(())
+        self.turn(link, false)
     }
 }

@@ -16,11 +16,12 @@ fn link(a: u32, b: u32) -> Ends {
     }
 }
 
-/// The report that a granted call does not make.
-fn granted(answer: Result<(), FabricFault>) -> Result<(), Fault> {
-    match answer {
-        Ok(()) => Ok(()),
-        Err(fault) => Err(Fault::from(fault)),
+/// A refusal by a fabric as it is reported.
+fn report(code: u32, place: u32) -> Fault {
+    Fault {
+        layer: Layer::Fabric,
+        code,
+        place,
     }
 }
 
@@ -31,29 +32,14 @@ fn refused(
     code: u32,
     place: u32,
 ) -> Result<(), Fail> {
-    match answer {
-        Ok(()) => Err(Fail::new("granted")),
-        Err(fault) => {
-            let report = Fault {
-                layer: Layer::Fabric,
-                code,
-                place,
-            };
-            assert_eq!(rt; Fault::from(fault), report);
-            Ok(())
-        }
-    }
+    assert_eq!(rt; answer.map_err(Fault::from), Err(report(code, place)));
+    Ok(())
 }
 
 /// Checks whether a link carries.
 fn carries<F: Fabric>(rt: &impl Abort, fabric: &F, link: u32, expected: bool) -> Result<(), Fail> {
-    match fabric.look(link) {
-        Ok(on) => {
-            assert!(rt; on == expected);
-            Ok(())
-        },
-        Err(_) => Err(Fail::new("refused")),
-    }
+    assert_eq!(rt; fabric.look(link), Ok(expected));
+    Ok(())
 }
 
 /// Checks that the making of a fabric was refused with this code and place.
@@ -63,28 +49,18 @@ fn not_made(
     code: u32,
     place: u32,
 ) -> Result<(), Fail> {
-    match refusal {
-        None => Err(Fail::new("granted")),
-        Some(fault) => {
-            let report = Fault {
-                layer: Layer::Fabric,
-                code,
-                place,
-            };
-            assert_eq!(rt; Fault::from(fault), report);
-            Ok(())
-        }
-    }
+    assert_eq!(rt; refusal.map(Fault::from), Some(report(code, place)));
+    Ok(())
 }
 
 /// What any blank fabric of three links does.
 fn try_three_links<F: Fabric>(rt: &impl Abort, fabric: &mut F) -> Result<(), Fail> {
-    assert!(rt; fabric.size() == 3);
+    assert_eq!(rt; fabric.size(), 3);
     refused(rt, fabric.enable(0), 40, 0)?;
     refused(rt, fabric.disable(4), 40, 4)?;
     assert!(rt; fabric.look(4).is_err());
     refused(rt, fabric.disable(2), 42, 2)?;
-    granted(fabric.enable(2))?;
+    fabric.enable(2)?;
     refused(rt, fabric.enable(2), 41, 2)?;
     carries(rt, fabric, 1, false)?;
     carries(rt, fabric, 2, true)?;
@@ -105,7 +81,7 @@ fn link_map(rt: HostRuntime) -> Result<(), Fail> {
     let mut bytes = [9u8; 5];
     {
         let mut map = LinkMap::blank(3, &mut bytes);
-        assert!(rt; map.refusal().is_none());
+        assert_eq!(rt; map.refusal(), None);
         try_three_links(&rt, &mut map)?;
         try_toggle(&rt, &mut map)?;
     }
@@ -119,7 +95,7 @@ fn port_table(rt: HostRuntime) -> Result<(), Fail> {
     let mut bytes = [9u8; 20];
     {
         let mut table = PortTable::blank(3, &ends, &mut bytes);
-        assert!(rt; table.refusal().is_none());
+        assert_eq!(rt; table.refusal(), None);
         try_three_links(&rt, &mut table)?;
         try_toggle(&rt, &mut table)?;
     }
@@ -136,7 +112,7 @@ fn bit_map(rt: HostRuntime) -> Result<(), Fail> {
     let mut words = [9u32; 2];
     {
         let mut map = BitMap::blank(3, &mut words);
-        assert!(rt; map.refusal().is_none());
+        assert_eq!(rt; map.refusal(), None);
         try_three_links(&rt, &mut map)?;
         try_toggle(&rt, &mut map)?;
     }
@@ -144,17 +120,17 @@ fn bit_map(rt: HostRuntime) -> Result<(), Fail> {
     Ok(())
 }
 
-/// Enables three links that meet at node 1, so that its chain is 5, 3, 1; then disables one of them.
-fn star(out: u32) -> Result<[u8; 22], Fault> {
+/// Enables three links that meet at node 1, so that its chain is 5, 3, 1; then disables one of them, if one is to be.
+fn star(out: Option<u32>) -> Result<[u8; 22], FabricFault> {
     let ends = [link(1, 2), link(1, 3), link(1, 4)];
     let mut bytes = [9u8; 22];
     {
         let mut table = PortTable::blank(4, &ends, &mut bytes);
-        granted(table.enable(1))?;
-        granted(table.enable(2))?;
-        granted(table.enable(3))?;
-        if out != 0 {
-            granted(table.disable(out))?;
+        for link in 1..=3 {
+            table.enable(link)?;
+        }
+        if let Some(link) = out {
+            table.disable(link)?;
         }
     }
     Ok(bytes)
@@ -163,7 +139,7 @@ fn star(out: u32) -> Result<[u8; 22], Fault> {
 #[test]
 fn chain_of_three(rt: HostRuntime) -> Result<(), Fail> {
     assert_eq!(rt;
-        star(0)?,
+        star(None)?,
         [
             0u8, 5, 0, 2, 0, 4, 0, 6, 0, 0, 0, 0, 0, 1, 0, 0, 0, 3, 0, 0, 9, 9,
         ]
@@ -174,7 +150,7 @@ fn chain_of_three(rt: HostRuntime) -> Result<(), Fail> {
 #[test]
 fn first_unlinked(rt: HostRuntime) -> Result<(), Fail> {
     assert_eq!(rt;
-        star(3)?,
+        star(Some(3))?,
         [
             0u8, 3, 0, 2, 0, 4, 0, 0, 0, 0, 0, 0, 0, 1, 0, 0, 0, 0, 0, 0, 9, 9,
         ]
@@ -185,7 +161,7 @@ fn first_unlinked(rt: HostRuntime) -> Result<(), Fail> {
 #[test]
 fn middle_unlinked(rt: HostRuntime) -> Result<(), Fail> {
     assert_eq!(rt;
-        star(2)?,
+        star(Some(2))?,
         [
             0u8, 5, 0, 2, 0, 0, 0, 6, 0, 0, 0, 0, 0, 0, 0, 0, 0, 1, 0, 0, 9, 9,
         ]
@@ -196,7 +172,7 @@ fn middle_unlinked(rt: HostRuntime) -> Result<(), Fail> {
 #[test]
 fn last_unlinked(rt: HostRuntime) -> Result<(), Fail> {
     assert_eq!(rt;
-        star(1)?,
+        star(Some(1))?,
         [
             0u8, 5, 0, 0, 0, 4, 0, 6, 0, 0, 0, 0, 0, 0, 0, 0, 0, 3, 0, 0, 9, 9,
         ]
@@ -211,15 +187,10 @@ fn high_byte_first(rt: HostRuntime) -> Result<(), Fail> {
     let mut bytes = [9u8; 520];
     {
         let mut table = PortTable::blank(2, &ends, &mut bytes);
-        granted(table.enable(129))?;
-        granted(table.enable(1))?;
+        table.enable(129)?;
+        table.enable(1)?;
     }
-    assert_eq!(rt;
-        [
-            bytes[0], bytes[1], bytes[2], bytes[3], bytes[4], bytes[5], bytes[6], bytes[7],
-        ],
-        [0u8, 1, 0, 2, 1, 1, 1, 2]
-    );
+    assert_eq!(rt; bytes[..8], [0u8, 1, 0, 2, 1, 1, 1, 2][..]);
     Ok(())
 }
 
@@ -233,7 +204,7 @@ fn link_map_refused(rt: HostRuntime) -> Result<(), Fail> {
     {
         let map = LinkMap::blank(3, &mut bytes);
         not_made(&rt, map.refusal(), 12, 0)?;
-        assert!(rt; map.size() == 0);
+        assert_eq!(rt; map.size(), 0);
     }
     assert_eq!(rt; bytes, [9u8, 9]);
     Ok(())
@@ -249,7 +220,7 @@ fn bit_map_refused(rt: HostRuntime) -> Result<(), Fail> {
     {
         let map = BitMap::blank(65, &mut words);
         not_made(&rt, map.refusal(), 12, 0)?;
-        assert!(rt; map.size() == 0);
+        assert_eq!(rt; map.size(), 0);
     }
     assert_eq!(rt; words, [9u32, 9]);
     Ok(())
@@ -261,7 +232,7 @@ fn no_table(rt: &impl Abort, n: u32, ends: &[Ends], code: u32, place: u32) -> Re
     {
         let table = PortTable::blank(n, ends, &mut bytes);
         not_made(rt, table.refusal(), code, place)?;
-        assert!(rt; table.size() == 0);
+        assert_eq!(rt; table.size(), 0);
     }
     assert_eq!(rt; bytes, [9u8; 10]);
     Ok(())

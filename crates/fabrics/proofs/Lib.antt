@@ -1,3 +1,3 @@
-pub mod Calls
 pub mod Flags
 pub mod Blanks
+pub mod Calls

@@ -12,6 +12,10 @@ flags m bs = map (λ b. nat_eq b 1) (take m bs)
 abbrev pub Bits : ℕ → List ℕ → Type 0
 Bits m bs = (k : ℕ) → k < m → slice_index bs k ≤ 1
 
+-- The byte of a link that carries, or of one that does not.
+abbrev pub byte : Bool → ℕ
+byte on = cond on 1 0
+
 -- Why memory of so many bytes makes no link map of m links, if so.
 abbrev pub map_fault : ℕ → ℕ → Option BlankFault
 map_fault m len = cond (nat_lt 16384 m) (Some LinkCount) (cond (nat_lt len m) (Some ShortMemory) None)

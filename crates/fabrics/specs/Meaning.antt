@@ -46,3 +46,13 @@ Disables c k (Err f) d = (disable_fault c k ≡ Some f) × (d ≡ c)
 abbrev pub Places : ℕ → ℕ → Result ℕ FabricFault → Type 0
 Places m k (Ok i) = (within m k ≡ true) × (i ≡ k - 1) × (i < m)
 Places m k (Err f) = (within m k ≡ false) × (f ≡ LinkOutside k)
+
+-- The answer of the call that turns link k on or off, with the carrying links c before and d after.
+abbrev pub Turns : {U : Type 0} → List Bool → ℕ → Bool → Result U FabricFault → List Bool → Type 0
+Turns c k true r d = Enables c k r d
+Turns c k false r d = Disables c k r d
+
+-- Why link k, whose flag is b, is not turned on or off, if it is not: it carries already, or it does not carry.
+abbrev pub flag_fault : ℕ → Bool → Bool → Option FabricFault
+flag_fault k b true = cond b (Some (CarriesAlready k)) None
+flag_fault k b false = cond b None (Some (CarriesNot k))

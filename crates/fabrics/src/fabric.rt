@@ -1,8 +1,9 @@
-//! What any fabric has to show: the links that carry, and four calls on them; and the check that a call on a link
+//! What any fabric has to show: the links that carry, and four calls on them; and the checks that a call on a link
 //! begins with.
 
 ghost use Rattle.std.specs.Prelude.{◌≡◌, Bool, List, length, OnErr};
-ghost use Rattle.fabrics.specs.Meaning.{Looks, Enables, Disables, Places};
+ghost use Rattle.fabrics.specs.Meaning.{Looks, Enables, Disables, Places, flag_fault};
+ghost use Rattle.network.specs.Ends.{unless};
 
 use faults::FabricFault;
 
@@ -45,4 +46,15 @@ pub fn place(size: u32, link: u32) -> Result<usize, FabricFault>
         return Err(FabricFault::LinkOutside(link));
     }
     Ok((link - 1) as usize)
+}
+
+/// Refuses to turn a link on that carries already, or off one that does not carry.
+pub fn check_turn(link: u32, carries: bool, on: bool) -> Result<(), FabricFault>
+    ensures { result ≡ unless (flag_fault link carries on) tt }
+{
+    match (carries, on) {
+        (true, true) => Err(FabricFault::CarriesAlready(link)),
+        (false, false) => Err(FabricFault::CarriesNot(link)),
+        _ => Ok(()),
+    }
 }

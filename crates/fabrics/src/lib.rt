@@ -4,5 +4,5 @@
 mod fabric;
 mod map;
 
-pub use fabric::{Fabric, place};
+pub use fabric::{Fabric, check_turn, place};
 pub use map::LinkMap;

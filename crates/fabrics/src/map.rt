@@ -2,10 +2,11 @@
 
 ghost use Rattle.std.specs.Prelude.{◌≡◌, ◌-◌, ◌≤◌, length, OnErr, OnOk, slice_set};
 ghost use Rattle.fabrics.specs.Blank.{Begins};
-ghost use Rattle.fabrics.specs.Map.{flags, Bits, map_fault, MapShape, shape_of};
-ghost use Rattle.fabrics.specs.Meaning.{Enables, Disables};
+ghost use Rattle.fabrics.specs.Map.{flags, Bits, byte, map_fault, MapShape, shape_of};
+ghost use Rattle.fabrics.specs.Meaning.{Enables, Disables, Turns};
+ghost use Rattle.network.specs.Ends.{unless};
 
-use crate::fabric::{Fabric, place};
+use crate::fabric::{Fabric, check_turn, place};
 use faults::{BlankFault, FabricFault};
 use network::MAX_LINKS;
 
@@ -14,22 +15,23 @@ use network::MAX_LINKS;
 pub struct LinkMap<'a> {
     m: u32,
     bytes: &'a mut [u8],
+    // A refused map is no Err: it holds its memory until it is let go, and as a fabric of no links takes any call.
     refusal: Option<BlankFault>,
     ghost fits: { m ≤ length bytes.now },
     ghost bits: { Bits m bytes.now },
 }
 
-/// Why memory of `len` bytes is refused as a link map of m links, if it is.
-fn map_fault(m: u32, len: usize) -> Option<BlankFault>
-    ensures { result ≡ map_fault m len }
+/// Refuses memory of `len` bytes that makes no link map of m links.
+fn check_map(m: u32, len: usize) -> Result<(), BlankFault>
+    ensures { result ≡ unless (map_fault m len) tt }
 {
     if m as usize > MAX_LINKS {
-        return Some(BlankFault::LinkCount);
+        return Err(BlankFault::LinkCount);
     }
     if len < m as usize {
-        return Some(BlankFault::ShortMemory);
+        return Err(BlankFault::ShortMemory);
     }
-    None
+    Ok(())
 }
 
 impl<'a> LinkMap<'a> {
@@ -40,16 +42,19 @@ impl<'a> LinkMap<'a> {
         ensures outcome { Begins (map_fault m (length bytes.old)) m m bytes.old result.bytes.now (flags result.m result.bytes.now) }
         ensures lent { result.bytes.ghost_name ≡ bytes.entry.ghost_name }
     {
-        let refusal = map_fault(m, bytes.len());
-        if refusal.is_some() {
+        if let Err(fault) = check_map(m, bytes.len()) {
             return LinkMap {
                 m: 0,
                 bytes,
-                refusal,
+                refusal: Some(fault),
             };
         }
-        bytes[0..m as usize].fill(0);
-        LinkMap { m, bytes, refusal }
+        bytes[..m as usize].fill(0);
+        LinkMap {
+            m,
+            bytes,
+            refusal: None,
+        }
     }
 
     /// Why the making of this map was refused, if it was.
@@ -57,6 +62,19 @@ impl<'a> LinkMap<'a> {
         ensures { result ≡ self.now.refusal }
     {
         self.refusal
+    }
+
+    /// Makes a link carry, or with `on` false no longer carry.
+    fn turn(&mut self, link: u32, on: bool) -> Result<(), FabricFault>
+        ensures answer { Turns (flags self.old.m self.old.bytes.now) link on result (flags self.new.m self.new.bytes.now) }
+        ensures kept { OnErr result (self.new ≡ self.old) }
+        ensures same { shape_of self.new.m self.new.bytes.ghost_name ≡ shape_of self.old.m self.old.bytes.ghost_name }
+        ensures memory { OnOk result (self.new.bytes.now ≡ slice_set self.old.bytes.now (link - 1) (byte on)) }
+    {
+        let i = place(self.m, link)?;
+        check_turn(link, self.bytes[i] == 1, on)?;
+        self.bytes[i] = u8::from(on);
+        Ok(())
     }
 }
 
@@ -82,12 +100,7 @@ impl Fabric for LinkMap<'_> {
         ensures same { shape_of self.new.m self.new.bytes.ghost_name ≡ shape_of self.old.m self.old.bytes.ghost_name }
         ensures memory { OnOk result (self.new.bytes.now ≡ slice_set self.old.bytes.now (link - 1) 1) }
     {
-        let i = place(self.m, link)?;
-        if self.bytes[i] == 1 {
-            return Err(FabricFault::CarriesAlready(link));
-        }
-        self.bytes[i] = 1;
-        Ok(())
+        self.turn(link, true)
     }
 
     fn disable(&mut self, link: u32) -> Result<(), FabricFault>
@@ -96,11 +109,6 @@ impl Fabric for LinkMap<'_> {
         ensures same { shape_of self.new.m self.new.bytes.ghost_name ≡ shape_of self.old.m self.old.bytes.ghost_name }
         ensures memory { OnOk result (self.new.bytes.now ≡ slice_set self.old.bytes.now (link - 1) 0) }
     {
-        let i = place(self.m, link)?;
-        if self.bytes[i] != 1 {
-            return Err(FabricFault::CarriesNot(link));
-        }
-        self.bytes[i] = 0;
-        Ok(())
+        self.turn(link, false)
     }
 }

@@ -1,10 +1,10 @@
 -- Blank memory is a port table in which no link carries.
-use Rattle.std.proofs.Common.{◌≡◌, ℕ, zero, suc, ◌+◌, ◌*◌, ◌<◌, ◌≤◌, false, eqb, ltb, List, [], ◌∷◌, length, replicate, Some, None, Option, sym, refl, ap, ◌∙◌, subst, arith}
-use Rattle.std.proofs.lemmas.Bool.{both_ways, eq-eqb, ltb-false}
+use Rattle.std.proofs.Common.{◌≡◌, ℕ, zero, suc, ◌+◌, ◌*◌, ◌<◌, ◌≤◌, false, List, [], ◌∷◌, length, replicate, Some, None, Option, sym, refl, ap, ◌∙◌, subst, arith}
+use Rattle.std.proofs.lemmas.Bool.{both_ways}
 use Rattle.std.proofs.lemmas.List.{get_or-replicate, length-replicate, ext_get_or}
 use Rattle.std.proofs.lemmas.Bool.Decides.{nat_tests}
 use Rattle.fabrics.specs.Blank.{blanked, Begins}
-use Rattle.fabrics.proofs.Blanks.{passed, blank-at, length-blanked}
+use Rattle.fabrics.proofs.Blanks.{blank-at, length-blanked}
 use Rattle.network.specs.Ends.{no_node, end_fault, or_else, first_end_fault}
 use Rattle.network.specs.declared.types.Node.{Node}
 use Rattle.network.specs.declared.types.Ends.{Ends}
@@ -14,27 +14,21 @@ use Rattle.port_layout.specs.Makes.{of_ends, table_size, table_fault, Wired}
 use Rattle.port_layout.specs.Ports.{ends_of, first_head, second_head, owner, chain_of, linked, flags, Joins, Table}
 use Rattle.port_layout.specs.Words.{word}
 use Rattle.port_layout.proofs.Kept.{settled, lists}
-use Rattle.port_layout.proofs.Tables.{length-flags, flag_at, owned_by}
+use Rattle.port_layout.proofs.Tables.{length_flags, flag_at, owned_by}
 
 is-node : (n : ℕ) (v : Node) → no_node n v ≡ false → (0 < v.0) × (v.0 ≤ n)
 is-node n v e = (grind (arith, nat_tests), grind (arith, nat_tests))
 
 first-none : {X : Type 0} (a b : Option X) → or_else a b ≡ None → (a ≡ None) × (b ≡ None)
 first-none None b e = (refl, e)
-first-none (Some f) b e = ((cc), (cc))
+first-none (Some f) b e = cc
 
 no-end-fault : (o : Option EndFault) → of_ends o ≡ None → o ≡ None
 no-end-fault None e = refl
 no-end-fault (Some f) e = cc
 
 joins_of : (n k : ℕ) (e : Ends) → end_fault n k e ≡ None → Joins n e
-joins_of n k e h =
-    let a = passed (no_node n e.a) _ _ h in
-    let b = passed (no_node n e.b) _ _ a.1 in
-    let c = passed (eqb e.a.0 e.b.0) _ _ b.1 in
-    let p = is-node n e.a a.0 in
-    let q = is-node n e.b b.0 in
-    record { first-is = p.0; first-in = p.1; second-is = q.0; second-in = q.1; apart = λ s. both_ways (eqb e.a.0 e.b.0) c.0 (eq-eqb e.a.0 e.b.0 s) }
+joins_of n k e h = record { first-is = grind (arith, nat_tests); first-in = grind (arith, nat_tests); second-is = grind (arith, nat_tests); second-in = grind (arith, nat_tests); apart = λ s. grind (arith, nat_tests) }
 
 all_join : (n k : ℕ) (es : List Ends) → first_end_fault n k es ≡ None → (i : ℕ) → i < length es → Joins n (ends_of es i)
 all_join n k [] h i l = absurd (omega arith)
@@ -49,17 +43,12 @@ pub record Granted (n : ℕ) (es : List Ends) (len : ℕ) : Type 0 where
   pub joins : (i : ℕ) → i < length es → Joins n (ends_of es i)
 
 pub granted : (n : ℕ) (es : List Ends) (len : ℕ) → table_fault n es len ≡ None → Granted n es len
-granted n es len e =
-    let a = passed (eqb n 0) _ _ e in
-    let b = passed (ltb 4096 n) _ _ a.1 in
-    let c = passed (ltb 16384 (length es)) _ _ b.1 in
-    let d = passed (ltb len (table_size n (length es))) _ _ c.1 in
-    record {
-      nodes = ltb-false 4096 n b.0;
-      links = ltb-false 16384 (length es) c.0;
-      room = ltb-false len (table_size n (length es)) d.0;
-      joins = all_join n 1 es (no-end-fault (first_end_fault n 1 es) d.1);
-    }
+granted n es len e = record {
+  nodes = grind (arith, nat_tests);
+  links = grind (arith, nat_tests);
+  room = grind (arith, nat_tests);
+  joins = all_join n 1 es (grind (arith, nat_tests, no-end-fault (first_end_fault n 1 es)));
+}
 
 module _ (n : ℕ) (es : List Ends) (bs : List ℕ) (g : Granted n es (length bs)) where
   js : (i : ℕ) → i < length es → Joins n (ends_of es i)
@@ -100,8 +89,8 @@ module _ (n : ℕ) (es : List Ends) (bs : List ℕ) (g : Granted n es (length bs
   blank-flags =
       let zs = blanked (table_size n (length es)) bs in
       ext_get_or false (flags n es zs) (replicate (length es) false)
-      (length-flags n es zs ∙ sym (length-replicate (length es) false))
-      (λ i l. let h : i < length es = omega (arith, length-flags n es zs) in
+      (length_flags n es zs ∙ sym (length-replicate (length es) false))
+      (λ i l. let h : i < length es = omega (arith, length_flags n es zs) in
       flag_at n es zs i h ∙ clean-first i h ∙ sym (get_or-replicate (length es) i false false h))
 
   pub wired : table_fault n es (length bs) ≡ None → Wired (table_fault n es (length bs)) n es n es

@@ -3,6 +3,7 @@ use Rattle.std.proofs.Common.{◌≡◌, ℕ, ◌+◌, ◌-◌, ◌*◌, ◌/◌
 use Rattle.std.proofs.lemmas.Bool.{eq-eqb, ne_eqb, cases_eq}
 use Rattle.std.proofs.lemmas.List.{length-set, get_or-set_same, get_or-set_other, ext_get_or}
 use Rattle.std.proofs.lemmas.List.FromFn.{length-map-range_with_len, get_or-map-range_with_len}
+use Rattle.std.proofs.lemmas.Bool.Decides.{nat_tests}
 use Rattle.port_layout.specs.Chains.{cell, has, without, holder, Kept}
 use Rattle.port_layout.specs.Words.{word, pushed, unlinked}
 use Rattle.port_layout.specs.Ports.{ends_of, first_head, second_head, owner, chain_of, linked, flags, Joins, Table, front, back}
@@ -10,8 +11,8 @@ use Rattle.network.specs.declared.types.Ends.{Ends}
 use Rattle.port_layout.proofs.Kept.{lists, settled, push_kept, push-has, push-has-it, unlink-kept, unlink-has, unlink-has-it, holder-is, holder_in, above}
 use Rattle.port_layout.proofs.Puts.{pushed-rest, pushed-cell, pushed-head, unlinked-rest, unlinked-cell, unlinked-holder}
 
-pub length-flags : (n : ℕ) (es : List Ends) (bs : List ℕ) → length (flags n es bs) ≡ length es
-length-flags n es bs = length-map-range_with_len (linked n es bs) 0 (length es)
+pub length_flags : (n : ℕ) (es : List Ends) (bs : List ℕ) → length (flags n es bs) ≡ length es
+length_flags n es bs = length-map-range_with_len (linked n es bs) 0 (length es)
 
 pub flag_at : (n : ℕ) (es : List Ends) (bs : List ℕ) (i : ℕ) → i < length es → get_or (flags n es bs) i false ≡ linked n es bs i
 flag_at n es bs i h = get_or-map-range_with_len (linked n es bs) 0 (length es) i i false h (omega arith)
@@ -19,18 +20,10 @@ flag_at n es bs i h = get_or-map-range_with_len (linked n es bs) 0 (length es) i
 -- Whose a record is.
 module _ (es : List Ends) where
   pub owner-first : (i : ℕ) → owner es (2 * i + 1) ≡ first_head es i
-  owner-first i =
-      let o : (2 * i + 1) % 2 ≡ 1 = omega arith in
-      let q : (2 * i + 1 - 1) / 2 ≡ i = omega arith in
-      ap (λ b. cond b (first_head es ((2 * i + 1 - 1) / 2)) (second_head es ((2 * i + 1 - 1) / 2))) (eq-eqb ((2 * i + 1) % 2) 1 o)
-      ∙ ap (first_head es) q
+  owner-first i = grind (arith, nat_tests)
 
   pub owner-second : (i : ℕ) → owner es (2 * i + 2) ≡ second_head es i
-  owner-second i =
-      let o : (2 * i + 2) % 2 ≡ 1 → ⊥ = λ e. omega arith in
-      let q : (2 * i + 2 - 1) / 2 ≡ i = omega arith in
-      ap (λ b. cond b (first_head es ((2 * i + 2 - 1) / 2)) (second_head es ((2 * i + 2 - 1) / 2))) (ne_eqb ((2 * i + 2) % 2) 1 o)
-      ∙ ap (second_head es) q
+  owner-second i = grind (arith, nat_tests)
 
 -- One step: record r comes to be in its chain, or not, and the others stay.
 pub record Step (n m : ℕ) (own : ℕ → ℕ) (w' : ℕ → ℕ) (K K' : ℕ → List ℕ) (r : ℕ) (b : Bool) : Type 0 where
@@ -126,11 +119,11 @@ module _ (n : ℕ) (es : List Ends) (bs : List ℕ) (t : Table n es bs) where
 
     pub turned-flags : flags n es cs ≡ set (flags n es bs) i b
     turned-flags =
-        let lf : length (flags n es bs) ≡ length es = length-flags n es bs in
+        let lf : length (flags n es bs) ≡ length es = length_flags n es bs in
         ext_get_or false (flags n es cs) (set (flags n es bs) i b)
-        (length-flags n es cs ∙ sym (length-set (flags n es bs) i b ∙ lf))
+        (length_flags n es cs ∙ sym (length-set (flags n es bs) i b ∙ lf))
         (λ j l.
-        let jl : j < length es = omega (arith, length-flags n es cs) in
+        let jl : j < length es = omega (arith, length_flags n es cs) in
         flag_at n es cs j jl
         ∙ elim (cases_eq j i) [
           | inl e ↦ ap (linked n es cs) e ∙ turned ∙ sym (ap (λ z. get_or (set (flags n es bs) i b) z false) e ∙ get_or-set_same (flags n es bs) i b false (omega arith))

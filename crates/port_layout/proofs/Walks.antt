@@ -1,76 +1,61 @@
 -- Chains of records in memory: what a walk meets, and what a push and an unlinking leave.
-use Rattle.std.proofs.Common.{◌≡◌, ℕ, zero, suc, ◌+◌, ◌-◌, ◌<◌, ◌≤◌, true, false, cond, eqb, ◌⊎◌, List, [], ◌∷◌, length, is_some, Some, None, sym, refl, ap, ◌∙◌, subst, inl, inr, arith}
-use Rattle.std.proofs.lemmas.Bool.{eq-eqb, ne_eqb, cases_Bool, cases_eq, both_ways}
+use Rattle.std.proofs.Common.{◌≡◌, ℕ, zero, suc, ◌+◌, ◌-◌, ◌<◌, ◌≤◌, true, false, cond, ◌⊎◌, List, [], ◌∷◌, length, is_some, Some, None, sym, refl, ap, ◌∙◌, subst, inl, inr, arith}
+use Rattle.std.proofs.lemmas.Bool.{eq-eqb, ne_eqb, cases_eq, both_ways}
+use Rattle.std.proofs.lemmas.Bool.Decides.{nat_tests}
 use Rattle.port_layout.specs.Chains.{cell, chain, has, without, holder, found, Spells, Once}
 
 -- What is in a chain.
 
 pub has-head : (r : ℕ) (xs : List ℕ) → has r (r ∷ xs) ≡ true
-has-head r xs = ap (λ b. cond b true (has r xs)) (eq-eqb r r refl)
+has-head r xs = grind (arith, nat_tests)
 
 pub has-tail : (r x : ℕ) (xs : List ℕ) → has r xs ≡ true → has r (x ∷ xs) ≡ true
-has-tail r x xs h = elim (eqb x r) as (λ b. cond b true (has r xs) ≡ true) [ true ↦ refl | false ↦ h ]
+has-tail r x xs h = grind (arith, nat_tests)
 
 pub has_other : (r x : ℕ) (xs : List ℕ) → (x ≡ r → ⊥) → has r (x ∷ xs) ≡ has r xs
-has_other r x xs n = ap (λ b. cond b true (has r xs)) (ne_eqb x r n)
+has_other r x xs n = grind (arith, nat_tests)
 
 pub has-not-head : (r x : ℕ) (xs : List ℕ) → has r (x ∷ xs) ≡ false → x ≡ r → ⊥
-has-not-head r x xs h e = both_ways (has r (x ∷ xs)) h (ap (λ b. cond b true (has r xs)) (eq-eqb x r e))
+has-not-head r x xs h e = grind (arith, nat_tests)
 
 pub has-apart : (xs : List ℕ) (x y : ℕ) → has x xs ≡ false → has y xs ≡ true → y ≡ x → ⊥
-has-apart xs x y f t e = both_ways (has y xs) (ap (λ z. has z xs) e ∙ f) t
+has-apart xs x y f t e = grind arith
 
 -- What is left without a record.
 
 pub without-head : (r x : ℕ) (xs : List ℕ) → x ≡ r → without r (x ∷ xs) ≡ xs
-without-head r x xs e = ap (λ b. cond b xs (x ∷ without r xs)) (eq-eqb x r e)
+without-head r x xs e = grind (arith, nat_tests)
 
 pub without_other : (r x : ℕ) (xs : List ℕ) → (x ≡ r → ⊥) → without r (x ∷ xs) ≡ x ∷ without r xs
-without_other r x xs n = ap (λ b. cond b xs (x ∷ without r xs)) (ne_eqb x r n)
+without_other r x xs n = grind (arith, nat_tests)
 
 pub length_without : (r : ℕ) (xs : List ℕ) → length xs ≤ suc (length (without r xs))
 length_without r [] = omega arith
-length_without r (x ∷ xs) =
-    let h : length xs ≤ suc (length (without r xs)) = length_without r xs in
-    elim (eqb x r) as (λ b. suc (length xs) ≤ suc (length (cond b xs (x ∷ without r xs)))) [ true ↦ omega arith | false ↦ omega arith ]
+length_without r (x ∷ xs) = grind (arith, nat_tests, length_without r xs)
 
 pub has-without : (r y : ℕ) (xs : List ℕ) → has y (without r xs) ≡ true → has y xs ≡ true
-has-without r y [] = λ h. h
-has-without r y (x ∷ xs) =
-    elim (eqb x r) as (λ b. has y (cond b xs (x ∷ without r xs)) ≡ true → has y (x ∷ xs) ≡ true) [
-      | true ↦ has-tail y x xs
-      | false ↦ elim (eqb x y) as (λ b. cond b true (has y (without r xs)) ≡ true → cond b true (has y xs) ≡ true)
-          [ true ↦ (λ _. refl) | false ↦ has-without r y xs ]
-    ]
+has-without r y [] h = h
+has-without r y (x ∷ xs) h = grind (arith, nat_tests, has-without r y xs)
 
 pub has-without-other : (r y : ℕ) (xs : List ℕ) → (y ≡ r → ⊥) → has y (without r xs) ≡ has y xs
 has-without-other r y [] n = refl
-has-without-other r y (x ∷ xs) n = elim (cases_eq x r) [
-  | inl e ↦ ap (has y) (without-head r x xs e) ∙ sym (has_other y x xs (λ d. n (sym d ∙ e)))
-  | inr d ↦ ap (has y) (without_other r x xs d) ∙ ap (λ b. cond (eqb x y) true b) (has-without-other r y xs n)
-]
+has-without-other r y (x ∷ xs) n = grind (arith, nat_tests, has-without-other r y xs n)
 
 pub has-without-self : (r : ℕ) (xs : List ℕ) → Once xs → has r (without r xs) ≡ false
 has-without-self r [] o = refl
-has-without-self r (x ∷ xs) o = elim (cases_eq x r) [
-  | inl e ↦ ap (has r) (without-head r x xs e) ∙ ap (λ z. has z xs) (sym e) ∙ o.0
-  | inr d ↦ ap (has r) (without_other r x xs d) ∙ has_other r x (without r xs) d ∙ has-without-self r xs o.1
-]
+has-without-self r (x ∷ xs) o = grind (arith, nat_tests, has-without-self r xs o.1)
 
 pub not-has-without : (r y : ℕ) (xs : List ℕ) → has y xs ≡ false → has y (without r xs) ≡ false
-not-has-without r y xs f = elim (cases_Bool (has y (without r xs)))
-    [ inl t ↦ absurd (both_ways (has y xs) f (has-without r y xs t)) | inr g ↦ g ]
+not-has-without r y xs f = grind (arith, has-without r y xs)
 
 pub once-without : (r : ℕ) (xs : List ℕ) → Once xs → Once (without r xs)
 once-without r [] o = tt
-once-without r (x ∷ xs) o =
-    elim (eqb x r) as (λ b. Once (cond b xs (x ∷ without r xs)))
-    [ true ↦ o.1 | false ↦ (not-has-without r x xs o.0, once-without r xs o.1) ]
+once-without r (x ∷ xs) o = grind (arith, nat_tests, not-has-without r x xs, once-without r xs o.1)
 
 -- As many numbers from 1 to m as differ are at most m.
 pub few : (m : ℕ) (xs : List ℕ) → Once xs → ((r : ℕ) → has r xs ≡ true → (0 < r) × (r ≤ m)) → length xs ≤ m
 few m [] o h = omega arith
-few zero (x ∷ xs) o h = let a = h x (has-head x xs) in omega (arith, a.0, a.1)
+few zero (x ∷ xs) o h = grind (arith, h x (has-head x xs))
 few (suc m) (x ∷ xs) o h =
     let ys : List ℕ = without (suc m) (x ∷ xs) in
     let l : length ys ≤ m = few m ys (once-without (suc m) (x ∷ xs) o) (λ r t.
@@ -83,34 +68,24 @@ few (suc m) (x ∷ xs) o h =
 module _ (n : ℕ) (w : ℕ → ℕ) where
   pub chain_length : (f c : ℕ) → length (chain n w f c) ≤ f
   chain_length zero c = omega arith
-  chain_length (suc f) c =
-      let h : length (chain n w f (cell n (w c))) ≤ f = chain_length f (cell n (w c)) in
-      elim (eqb (w c) 0) as (λ b. length (cond b [] (w c ∷ chain n w f (cell n (w c)))) ≤ suc f) [ true ↦ omega arith | false ↦ omega arith ]
+  chain_length (suc f) c = grind (arith, nat_tests, chain_length f (cell n (w c)))
 
   pub chain-end : (f c : ℕ) → w c ≡ 0 → chain n w f c ≡ []
   chain-end zero c e = refl
-  chain-end (suc f) c e = ap (λ b. cond b [] (w c ∷ chain n w f (cell n (w c)))) (eq-eqb (w c) 0 e)
+  chain-end (suc f) c e = grind (arith, nat_tests)
 
   pub chain-step : (f c : ℕ) → (w c ≡ 0 → ⊥) → chain n w (suc f) c ≡ w c ∷ chain n w f (cell n (w c))
-  chain-step f c d = ap (λ b. cond b [] (w c ∷ chain n w f (cell n (w c)))) (ne_eqb (w c) 0 d)
+  chain-step f c d = grind (arith, nat_tests)
 
   -- A walk meets what the memory spells.
   pub chain-spelled : (f c : ℕ) (rs : List ℕ) → length rs ≤ f → Spells n w c rs → chain n w f c ≡ rs
   chain-spelled f c [] l s = chain-end f c s
   chain-spelled zero c (r ∷ rs) l s = absurd (omega arith)
-  chain-spelled (suc f) c (r ∷ rs) l s =
-      let p : 0 < r = s.1 in
-      let e : w c ≡ r = s.0 in
-      let d : w c ≡ 0 → ⊥ = λ z. let q : r ≡ 0 = sym e ∙ z in omega arith in
-      let k : length rs ≤ f = omega arith in
-      chain-step f c d ∙ ap (λ x. x ∷ chain n w f (cell n x)) e ∙ ap (λ t. r ∷ t) (chain-spelled f (cell n r) rs k s.2)
+  chain-spelled (suc f) c (r ∷ rs) l s = grind (arith, chain-step f c, chain-spelled f (cell n r) rs)
 
   pub spelled-above : (rs : List ℕ) (c : ℕ) → Spells n w c rs → (y : ℕ) → has y rs ≡ true → 0 < y
-  spelled-above [] c s y h = absurd (both_ways false refl h)
-  spelled-above (r ∷ rs) c s y h = elim (cases_eq r y) [
-    | inl e ↦ omega (arith, s.1, e)
-    | inr d ↦ spelled-above rs (cell n r) s.2 y (sym (has_other y r rs d) ∙ h)
-  ]
+  spelled-above [] c s y h = cc
+  spelled-above (r ∷ rs) c s y h = grind (arith, nat_tests, spelled-above rs (cell n r) s.2 y)
 
 -- Two memories.
 module _ (n : ℕ) (w w' : ℕ → ℕ) where
@@ -124,9 +99,9 @@ module _ (n : ℕ) (w w' : ℕ → ℕ) where
 pub holder-place : (n r : ℕ) (rs : List ℕ) (c : ℕ) → has r rs ≡ true → (holder n r c rs ≡ c) ⊎ ((y : ℕ) × (has y rs ≡ true) × (holder n r c rs ≡ cell n y) × (y ≡ r → ⊥))
 holder-place n r [] c h = inl refl
 holder-place n r (x ∷ xs) c h = elim (cases_eq x r) [
-  | inl e ↦ inl (ap (λ b. cond b c (holder n r (cell n x) xs)) (eq-eqb x r e))
+  | inl e ↦ inl (grind (arith, nat_tests))
   | inr d ↦
-      let q : holder n r c (x ∷ xs) ≡ holder n r (cell n x) xs = ap (λ b. cond b c (holder n r (cell n x) xs)) (ne_eqb x r d) in
+      let q : holder n r c (x ∷ xs) ≡ holder n r (cell n x) xs = grind (arith, nat_tests) in
       elim (holder-place n r xs (cell n x) (sym (has_other r x xs d) ∙ h)) [
         | inl e ↦ inr (x, has-head x xs, q ∙ e, d)
         | inr t ↦ inr (t.0, has-tail t.0 x xs t.1, q ∙ t.2, t.3)
@@ -167,25 +142,16 @@ module _ (n r : ℕ) (w w' : ℕ → ℕ) where
 -- What a walk for a record finds, step by step.
 module _ (n : ℕ) (w : ℕ → ℕ) (r : ℕ) (r0 : 0 < r) where
   pub found-end : (f c : ℕ) → w c ≡ 0 → found n w f c r ≡ None
-  found-end f c e = ap (λ t. cond (has r t) (Some (holder n r c t)) None) (chain-end n w f c e)
+  found-end f c e = grind (arith, chain-end n w f c e)
 
   pub found_here : (f g c : ℕ) → f ≡ suc g → w c ≡ r → found n w f c r ≡ Some c
-  found_here f g c u e =
-      let d : w c ≡ 0 → ⊥ = λ z. omega (arith, e, z) in
-      let rest = chain n w g (cell n (w c)) in
-      ap (λ t. cond (has r t) (Some (holder n r c t)) None) (ap (λ t. chain n w t c) u ∙ chain-step n w g c d)
-      ∙ ap (λ b. cond (cond b true (has r rest)) (Some (cond b c (holder n r (cell n (w c)) rest))) None) (eq-eqb (w c) r e)
+  found_here f g c u e = grind (arith, nat_tests, chain-step n w g c)
 
   pub found-step : (f g c : ℕ) → f ≡ suc g → (w c ≡ r → ⊥) → (w c ≡ 0 → ⊥) → found n w f c r ≡ found n w g (cell n (w c)) r
-  found-step f g c u e d =
-      let rest = chain n w g (cell n (w c)) in
-      ap (λ t. cond (has r t) (Some (holder n r c t)) None) (ap (λ t. chain n w t c) u ∙ chain-step n w g c d)
-      ∙ ap (λ b. cond (cond b true (has r rest)) (Some (cond b c (holder n r (cell n (w c)) rest))) None) (ne_eqb (w c) r e)
+  found-step f g c u e d = grind (arith, nat_tests, chain-step n w g c d)
 
 pub found-has : (n : ℕ) (w : ℕ → ℕ) (f c r : ℕ) → has r (chain n w f c) ≡ true → found n w f c r ≡ Some (holder n r c (chain n w f c))
-found-has n w f c r h = ap (λ b. cond b (Some (holder n r c (chain n w f c))) None) h
+found-has n w f c r h = grind arith
 
 pub found_some : (n : ℕ) (w : ℕ → ℕ) (f c r : ℕ) → is_some (found n w f c r) ≡ has r (chain n w f c)
-found_some n w f c r =
-    let t = chain n w f c in
-    elim (has r t) as (λ b. is_some (cond b (Some (holder n r c t)) None) ≡ b) [ true ↦ refl | false ↦ refl ]
+found_some n w f c r = grind arith

@@ -3,7 +3,7 @@
 #![tactic(auto)]
 
 mod cells;
-mod links;
+mod chains;
 mod table;
 
 pub use table::PortTable;
