@@ -16,17 +16,9 @@ module _ (c : List Bool) (k : ℕ) where
   enabled (Ok u) d e a = refl
   enabled (Err f) d e a = absurd (none-some (enable_fault c k) f e a.0)
 
--- What a look at a link tells, beside the answer b.
+-- What a look at a link tells.
 module _ (same : FabricFault → FabricFault → Bool) (c : List Bool) (k : ℕ) where
-  pub look-same : (r : Result Bool FabricFault) (b : Bool) → Looks c k r → result_eq beq same r (Ok b) ≡ true → carries c k ≡ b
-  look-same (Ok true) true l e = sym l.1
-  look-same (Ok false) false l e = sym l.1
-  look-same (Ok true) false l e = cc
-  look-same (Ok false) true l e = cc
-  look-same (Err f) b l e = cc
-
-  pub look-other : (r : Result Bool FabricFault) (b : Bool) → among c k ≡ true → Looks c k r → result_eq beq same r (Ok b) ≡ false
-      → carries c k ≡ b → ⊥
-  look-other (Ok true) b a l e q = grind arith
-  look-other (Ok false) b a l e q = grind arith
-  look-other (Err f) b a l e q = grind arith
+  pub look-tells : (r : Result Bool FabricFault) → among c k ≡ true → Looks c k r → result_eq beq same r (Ok true) ≡ carries c k
+  look-tells (Ok true) a l = l.1
+  look-tells (Ok false) a l = l.1
+  look-tells (Err f) a l = grind arith

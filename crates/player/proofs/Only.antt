@@ -1,5 +1,6 @@
 -- The flags of which exactly those of a list are up.
-use Rattle.std.proofs.Common.{◌≡◌, ℕ, zero, suc, ◌+◌, ◌-◌, ◌<◌, ◌≤◌, Bool, true, false, List, [], ◌∷◌, ◌++◌, length, get_or, take, set, None, inl, inr, sym, refl, ap, ◌∙◌, arith}
+use Rattle.std.proofs.Common.{◌≡◌, ℕ, zero, suc, ◌+◌, ◌-◌, ◌<◌, ◌≤◌, Bool, true, false, not, ◌&&◌, List, [], ◌∷◌, ◌++◌, length, get_or, take, set, None, inl, inr, sym, refl, ap, ◌∙◌, arith}
+use mathlib.Core.Bool.{beq}
 use Rattle.std.proofs.lemmas.List.{length-append, length-set, get_or_append_left, get_or_at, get_or-set_same, get_or-set_other, ext_get_or, take_more}
 use Rattle.std.proofs.lemmas.Bool.{cases_eq, cases_lt, cases_Bool}
 use Rattle.std.proofs.lemmas.Bool.Decides.{nat_tests}
@@ -94,6 +95,32 @@ module _ (m : ℕ) (xs : List ℕ) (c : List Bool) (size : length c ≡ m) where
     | inl t ↦ absurd (n (ap (λ d. carries d k) (agree-is c (only m xs) t) ∙ carries-only m xs k some most))
     | inr f ↦ sym f
   ]
+
+-- Whether exactly the listed ones of the links before one carry; if not, all links do not agree with the list.
+pub record Judged (m : ℕ) (xs : List ℕ) (c : List Bool) (before : ℕ) (so : Bool) : Type 0 where
+  pub yes : so ≡ true → (k : ℕ) → 1 ≤ k → k < before → carries c k ≡ mem k xs
+  pub no : so ≡ false → false ≡ agree c (only m xs)
+
+pub unlisted : (so on : Bool) → (so && beq on false) ≡ (so && not on)
+unlisted so true = refl
+unlisted so false = refl
+
+module _ (m : ℕ) (xs : List ℕ) (c : List Bool) (size : length c ≡ m) where
+  module _ (k : ℕ) (some : 1 ≤ k) (most : k ≤ m) where
+    same : ((i : ℕ) → 1 ≤ i → i < k → carries c i ≡ mem i xs) → carries c k ≡ mem k xs → (i : ℕ) → 1 ≤ i → i < k + 1 → carries c i ≡ mem i xs
+    same each here i a b = elim (cases_eq i k) [ inl z ↦ rw z here | inr z ↦ each i a (omega arith) ]
+
+    -- One link more, which carries or not, and is listed or not.
+    pub judged-more : (so on listed : Bool) → Judged m xs c k so → on ≡ carries c k → listed ≡ mem k xs → Judged m xs c (k + 1) (so && beq on listed)
+    judged-more true true true j e l = record { yes = λ t. same (j.yes refl) (sym e ∙ l); no = λ f. cc }
+    judged-more true false false j e l = record { yes = λ t. same (j.yes refl) (sym e ∙ l); no = λ f. cc }
+    judged-more true true false j e l = record { yes = λ t. cc; no = λ f. only-but m xs c size k some most (λ q. cc) }
+    judged-more true false true j e l = record { yes = λ t. cc; no = λ f. only-but m xs c size k some most (λ q. cc) }
+    judged-more false on listed j e l = record { yes = λ t. cc; no = λ f. j.no refl }
+
+  pub judged-all : (so : Bool) → Judged m xs c (m + 1) so → so ≡ agree c (only m xs)
+  judged-all true j = only-each m xs c size (λ k a b. j.yes refl k a (omega arith))
+  judged-all false j = j.no refl
 
 -- When lay is granted.
 module _ (s : Sheet) (c : List Bool) (size : length c ≡ s.m) (fit : unfit s ≡ false) (sound : list_fault s.m [] (starts s) ≡ None) where

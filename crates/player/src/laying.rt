@@ -11,17 +11,29 @@ use crate::states::Steady;
 use fabrics::Fabric;
 use faults::PlayerFault;
 
-/// Whether exactly the listed links carry.
-fn carries_only<F: Fabric>(fabric: &F, m: u32, list: &StartList) -> bool
+/// What a fabric carries: nothing, and exactly the links of a list. Both are so where the list is empty.
+#[derive(Drop)]
+struct Found {
+    blank: bool,
+    exact: bool,
+}
+
+/// Looks at every link in number order.
+fn survey<F: Fabric>(fabric: &F, m: u32, list: &StartList) -> Found
     requires { length (F.Fabric.carrying fabric.now) ≡ m }
-    ensures { result ≡ agree (F.Fabric.carrying fabric.now) (only m list.now.links.now) }
+    ensures blank { result.blank ≡ agree (F.Fabric.carrying fabric.now) (only m []) }
+    ensures exact { result.exact ≡ agree (F.Fabric.carrying fabric.now) (only m list.now.links.now) }
 {
+    let mut found = Found {
+        blank: true,
+        exact: true,
+    };
     for link in 1..=m {
-        if fabric.look(link) != Ok(list.lists(link)) {
-            return false;
-        }
+        let on = fabric.look(link) == Ok(true);
+        found.blank &= !on;
+        found.exact &= on == list.lists(link);
     }
-    true
+    found
 }
 
 /// Enables a list of links in order, in a fabric that carries none.
@@ -49,9 +61,10 @@ pub fn lay<F: Fabric>(plan: &Plan, fabric: &mut F) -> Result<Steady, PlayerFault
     plan.check()?;
     let start = StartList::new(&plan.start[..(plan.n - 1) as usize]);
     start.check(plan.m)?;
-    if carries_only(fabric, plan.m, &StartList::new(&[])) {
+    let found = survey(fabric, plan.m, &start);
+    if found.blank {
         light(fabric, plan.m, start.links);
-    } else if !carries_only(fabric, plan.m, &start) {
+    } else if !found.exact {
         return Err(PlayerFault::NotBlank);
     }
     Ok(Steady {
