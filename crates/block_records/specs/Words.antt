@@ -50,3 +50,7 @@ exchange_of words = exchange (slice_index words 0) (slice_index words 1)
 -- The entries of a table.
 abbrev pub entries_in : List (List ℕ) → List (ℕ × ℕ)
 entries_in table = map exchange_of table
+
+-- The first words of a table's records: the numbers of their links.
+abbrev pub numbers_in : List (List ℕ) → List ℕ
+numbers_in table = map (λ words. slice_index words 0) table

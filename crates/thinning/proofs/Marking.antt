@@ -1,8 +1,8 @@
 -- Marks, and links told apart by them.
-use Rattle.std.proofs.Common.{◌≡◌, ℕ, zero, suc, ◌+◌, ◌-◌, ◌/◌, ◌<◌, ◌≤◌, Bool, true, false, cond, eqb, List, [], ◌∷◌, ◌++◌, map, length, get_or, take, drop, set, filter, sym, refl, ap, ◌∙◌, subst, ap₂, inl, inr, arith}
+use Rattle.std.proofs.Common.{◌≡◌, ℕ, zero, suc, ◌+◌, ◌-◌, ◌<◌, ◌≤◌, Bool, true, false, cond, eqb, ◌||◌, List, [], ◌∷◌, ◌++◌, map, length, get_or, take, set, filter, sym, refl, ap, ◌∙◌, subst, ap₂, inl, inr, arith}
 use mathlib.Core.Path.{fun_ext}
-use Rattle.std.proofs.lemmas.Bool.{cases_eq, eq-eqb, ne_eqb, ltb-true, cond-true, cond-false}
-use Rattle.std.proofs.lemmas.List.{get_or-set_same, get_or-set_other, drop_more, take_more, drop_all, take_more_set, append-nil, map_push, length-take-le, get_or-take}
+use Rattle.std.proofs.lemmas.Bool.{cases_Bool, cases_eq, eq-eqb, ne_eqb, ltb-true, cond-true, cond-false}
+use Rattle.std.proofs.lemmas.List.{get_or-set_same, get_or-set_other, take_more_set, append-nil, length-map, get_or-map, map_push, length-take-le, get_or-take}
 use Rattle.std.proofs.lemmas.List.Elements.{filter_more}
 use Rattle.std.proofs.lemmas.Bool.Decides.{nat_tests}
 use Rattle.block_records.specs.declared.Link.{Link}
@@ -11,60 +11,55 @@ use Rattle.graphs.specs.Forest.{filtered, greedy, forest}
 use Rattle.graphs.specs.Thin.{holds, either, reduced}
 use Rattle.graphs.proofs.Joined.{◌⊆◌}
 use Rattle.graphs.proofs.Lists.{filtered-sub}
-use Rattle.forests.specs.Words.{no_link, link_in, links_in}
+use Rattle.block_records.specs.Words.{no_link, link_of, link_in, links_in, numbers_in}
+use Rattle.plans.specs.Plan.{among}
 use Rattle.forests.specs.Heap.{Indexes}
-use Rattle.forests.proofs.Packed.{length-links, links-at}
 use Rattle.forests.specs.Union.{Ends}
 use Rattle.forests.proofs.InOrder.{in-get_or}
 use Rattle.thinning.specs.Marks.{flag, Blank, Under, Below, unmarked, Ascends, Numbers}
 use Rattle.graphs.proofs.Kruskal.{greedy-sub}
 
-pub flag-set : (ms : List ℕ) (x v : ℕ) → x < length ms → (k : ℕ) → flag (set ms x v) k ≡ cond (eqb k x) (eqb v 1) (flag ms k)
-flag-set ms x v l k = elim (cases_eq k x) [
-  | inl e ↦ ap (λ j. flag (set ms x v) j) e ∙ ap (λ w. eqb w 1) (get_or-set_same ms x v 0 l) ∙ sym (cond-true _ _ _ (eq-eqb k x e))
-  | inr n ↦ ap (λ w. eqb w 1) (get_or-set_other ms x k v 0 n) ∙ sym (cond-false _ _ _ (ne_eqb k x n))
-]
+-- The number that a record begins with.
+abbrev pub number_of : List ℕ → ℕ
+number_of words = get_or words 0 0
 
-pub holds-push : (k : ℕ) (es : List Link) (e : Link) → holds k (es ++ e ∷ []) ≡ cond (eqb k e.number) true (holds k es)
-unfolding holds
-holds-push k [] e = refl
-holds-push k (f ∷ es) e = let h = holds-push k es e in grind (arith, nat_tests)
+-- A word is written at one more number.
+pub among-push : (k : ℕ) (xs : List ℕ) (x : ℕ) → among k (xs ++ x ∷ []) ≡ (among k xs || eqb k x)
+unfolding among
+among-push k [] x = grind arith
+among-push k (y ∷ xs) x = let h = among-push k xs x in grind (arith, nat_tests)
 
-pub holds-none : (k : ℕ) → holds k [] ≡ false
-unfolding holds
-holds-none k = refl
+pub filled_more : (ms os xs : List ℕ) (x v : ℕ) → x < length ms → ((k : ℕ) → get_or ms k 0 ≡ cond (among k xs) v (get_or os k 0))
+    → (k : ℕ) → get_or (set ms x v) k 0 ≡ cond (among k (xs ++ x ∷ [])) v (get_or os k 0)
+filled_more ms os xs x v l h k =
+    let p = among-push k xs x in
+    let m = h k in elim (cases_eq k x) [
+      | inl e ↦ let s = get_or-set_same ms x v 0 l in let t = eq-eqb k x e in rw e (grind (arith, nat_tests))
+      | inr n ↦ let s = get_or-set_other ms x k v 0 n in let t = ne_eqb k x n in grind (arith, nat_tests)
+    ]
 
-pub holds_more : (k : ℕ) (e : Link) (es : List Link) → holds k (e ∷ es) ≡ cond (eqb k e.number) true (holds k es)
-unfolding holds
-holds_more k e es = refl
+-- The links' numbers are those of their records.
+pub holds-among : (k : ℕ) (table : List (List ℕ)) → holds k (links_in table) ≡ among k (numbers_in table)
+unfolding holds among
+holds-among k [] = refl
+holds-among k (words ∷ table) = let h = holds-among k table in grind (arith, nat_tests)
 
-pub mark-more : (ms : List ℕ) (es : List Link) (i : ℕ) → i < length es → (get_or es i no_link).number < length ms
-    → ((k : ℕ) → flag ms k ≡ holds k (take i es)) → (k : ℕ) → flag (set ms (get_or es i no_link).number 1) k ≡ holds k (take (i + 1) es)
-mark-more ms es i l u h k =
-    let e = get_or es i no_link in
-    flag-set ms e.number 1 u k ∙ ap (λ b. cond (eqb k e.number) true b) (h k)
-    ∙ sym (ap (holds k) (take_more es i no_link l) ∙ holds-push k (take i es) e)
+-- Where nothing was marked, the numbers written at are marked; where none but them were, none is left marked.
+pub marked-flag : (ms os : List ℕ) (b : Bool) (k : ℕ) → get_or ms k 0 ≡ cond b 1 (get_or os k 0) → Blank os → flag ms k ≡ b
+marked-flag ms os b k e h = let o = h k in elim (cases_Bool b) [ inl t ↦ grind (arith, nat_tests) | inr t ↦ grind (arith, nat_tests) ]
 
-pub unmark-more : (ms : List ℕ) (es : List Link) (i : ℕ) → i < length es → (get_or es i no_link).number < length ms
-    → ((k : ℕ) → flag ms k ≡ true → holds k (drop i es) ≡ true)
-    → (k : ℕ) → flag (set ms (get_or es i no_link).number 0) k ≡ true → holds k (drop (i + 1) es) ≡ true
-unmark-more ms es i l u h k t =
-    let e = get_or es i no_link in
-    let f = flag-set ms e.number 0 u k in
-    let m = h k in
-    let d : holds k (drop i es) ≡ cond (eqb k e.number) true (holds k (drop (i + 1) es)) = ap (holds k) (drop_more es i no_link l) ∙ holds_more k e (drop (i + 1) es) in
-    grind (arith, nat_tests)
-
-pub unmark-all : (ms : List ℕ) (es : List Link) (i : ℕ) → length es ≤ i → ((k : ℕ) → flag ms k ≡ true → holds k (drop i es) ≡ true) → Blank ms
-unmark-all ms es i l h k =
-    let d : holds k (drop i es) ≡ false = ap (holds k) (drop_all i es l) ∙ holds-none k in
-    let m = h k in
-    grind (arith, nat_tests)
+pub unmarked-flag : (ms os : List ℕ) (b : Bool) (k : ℕ) → get_or ms k 0 ≡ cond b 0 (get_or os k 0) → flag os k ≡ b → flag ms k ≡ false
+unmarked-flag ms os b k e h = elim (cases_Bool b) [ inl t ↦ grind (arith, nat_tests) | inr t ↦ grind (arith, nat_tests) ]
 
 pub filtered-kept : (p : Link → Bool) (es : List Link) → filter p es ≡ filtered p es
 unfolding filtered
 filtered-kept p [] = refl
 filtered-kept p (e ∷ es) = let h = filtered-kept p es in cc
+
+pub filtered-all : (es : List Link) → filtered (λ e. true) es ≡ es
+unfolding filtered
+filtered-all [] = refl
+filtered-all (e ∷ es) = ap (λ (l : List Link). e ∷ l) (filtered-all es)
 
 pub filtered-same : (p q : Link → Bool) → ((e : Link) → p e ≡ q e) → (es : List Link) → filtered p es ≡ filtered q es
 filtered-same p q h es = ap (λ r. filtered r es) (fun_ext h)
@@ -72,6 +67,15 @@ filtered-same p q h es = ap (λ r. filtered r es) (fun_ext h)
 -- Conversions between links by place and links of a list.
 pub under_at : (m : ℕ) (es : List Link) → Under m es → (k : ℕ) (d : Link) → k < length es → (get_or es k d).number < m
 under_at m es u k d l = u (get_or es k d) (in-get_or es k d l)
+
+-- The numbers of links that are below m, as a table's first words.
+pub under-numbers : (m : ℕ) (table : List (List ℕ)) → Under m (links_in table) → (i : ℕ) → i < length (numbers_in table) → get_or (numbers_in table) i 0 < m
+under-numbers m table u i l =
+    let n = length-map table number_of in
+    let k = length-map table link_of in
+    let a = get_or-map number_of table i [] 0 (omega arith) in
+    let b = ap (λ (e : Link). e.number) (get_or-map link_of table i [] no_link (omega arith)) in
+    omega (arith, under_at m (links_in table) u i no_link (omega arith))
 
 pub take-sub : (n : ℕ) (es : List Link) → take n es ⊆ es
 take-sub zero es f i = elim i [ ]
@@ -83,27 +87,27 @@ pub ends-below : (n : ℕ) (es : List Link) → Below n es → Ends n es
 ends-below n es w = λ k lk d. w (get_or es k d) (in-get_or es k d lk)
 
 -- A position that is noted, and one that is left out.
-module _ (p : Link → Bool) (ws os : List ℕ) (k i : ℕ) (lt : i < length ws / 3) where
-  step : filter p (take (i + 1) (links_in ws)) ≡ filter p (take i (links_in ws)) ++ cond (p (link_in ws i)) (link_in ws i ∷ []) []
+module _ (p : Link → Bool) (table : List (List ℕ)) (os : List ℕ) (k i : ℕ) (lt : i < length table) where
+  step : filter p (take (i + 1) (links_in table)) ≡ filter p (take i (links_in table)) ++ cond (p (link_in table i)) (link_in table i ∷ []) []
   step =
-      let n = length-links ws in
-      let b = filter_more p (links_in ws) i no_link (omega arith) in
-      let a = links-at ws i no_link lt in
+      let n = length-map table link_of in
+      let b = filter_more p (links_in table) i no_link (omega arith) in
+      let a = get_or-map link_of table i [] no_link lt in
       cc
 
-  pub noted_in : k < length os → p (link_in ws i) ≡ true → map (link_in ws) (take k os) ≡ filter p (take i (links_in ws))
-      → map (link_in ws) (take (k + 1) (set os k i)) ≡ filter p (take (i + 1) (links_in ws))
+  pub noted_in : k < length os → p (link_in table i) ≡ true → map (link_in table) (take k os) ≡ filter p (take i (links_in table))
+      → map (link_in table) (take (k + 1) (set os k i)) ≡ filter p (take (i + 1) (links_in table))
   noted_in l t h =
       let a = take_more_set os k i l in
-      let m = map_push (link_in ws) (take k os) i in
-      let d : cond (p (link_in ws i)) (link_in ws i ∷ []) [] ≡ link_in ws i ∷ [] = cond-true _ _ _ t in
-      ap (map (link_in ws)) a ∙ m ∙ ap₂ (λ (x y : List Link). x ++ y) h (sym d) ∙ sym step
+      let m = map_push (link_in table) (take k os) i in
+      let d : cond (p (link_in table i)) (link_in table i ∷ []) [] ≡ link_in table i ∷ [] = cond-true _ _ _ t in
+      ap (map (link_in table)) a ∙ m ∙ ap₂ (λ (x y : List Link). x ++ y) h (sym d) ∙ sym step
 
-  pub noted-out : p (link_in ws i) ≡ false → map (link_in ws) (take k os) ≡ filter p (take i (links_in ws))
-      → map (link_in ws) (take k os) ≡ filter p (take (i + 1) (links_in ws))
+  pub noted-out : p (link_in table i) ≡ false → map (link_in table) (take k os) ≡ filter p (take i (links_in table))
+      → map (link_in table) (take k os) ≡ filter p (take (i + 1) (links_in table))
   noted-out t h =
-      let d : cond (p (link_in ws i)) (link_in ws i ∷ []) [] ≡ [] = cond-false _ _ _ t in
-      h ∙ sym (append-nil (filter p (take i (links_in ws)))) ∙ ap (λ (x : List Link). filter p (take i (links_in ws)) ++ x) (sym d) ∙ sym step
+      let d : cond (p (link_in table i)) (link_in table i ∷ []) [] ≡ [] = cond-false _ _ _ t in
+      h ∙ sym (append-nil (filter p (take i (links_in table)))) ∙ ap (λ (x : List Link). filter p (take i (links_in table)) ++ x) (sym d) ∙ sym step
 
 -- Numbers below n, one more written.
 pub noted-below : (os : List ℕ) (k v n : ℕ) → k < length os → v < n → ((j : ℕ) → j < k → get_or os j 0 < n) → (j : ℕ) → j < k + 1 → get_or (set os k v) j 0 < n

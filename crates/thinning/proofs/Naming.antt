@@ -8,7 +8,7 @@ use Rattle.graphs.specs.Graph.{label, here, later}
 use Rattle.forests.specs.Union.{Holds}
 use Rattle.graphs.specs.Thin.{roots, renamed, relabel}
 use Rattle.graphs.specs.Thinning.{relabelled}
-use Rattle.forests.specs.Words.{link}
+use Rattle.block_records.specs.Words.{link}
 use Rattle.thinning.specs.Marks.{Below}
 use Rattle.thinning.specs.Names.{Renames, through}
 

@@ -7,7 +7,7 @@ use Rattle.block_records.specs.declared.Link.{Link}
 use Rattle.graphs.specs.Graph.{label, In, here, later}
 use Rattle.graphs.proofs.Joined.{◌⊆◌, joined_in, label-spans}
 use Rattle.forests.specs.Union.{Holds}
-use Rattle.forests.specs.Words.{no_link}
+use Rattle.block_records.specs.Words.{no_link}
 use Rattle.thinning.specs.Marks.{stacked}
 
 pub stacked-none : (K : List Link) → stacked K [] ≡ K

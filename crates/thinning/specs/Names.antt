@@ -2,7 +2,7 @@
 use Rattle.std.specs.Prelude.{◌≡◌, ℕ, ◌<◌, List, slice_index}
 use Rattle.block_records.specs.declared.Link.{Link}
 use Rattle.graphs.specs.Thin.{renamed}
-use Rattle.forests.specs.Words.{link}
+use Rattle.block_records.specs.Words.{link}
 
 -- The table has the new number of each node below n, where the ends of some links are merged.
 abbrev pub Renames : List Link → List ℕ → ℕ → Type 0

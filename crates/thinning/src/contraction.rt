@@ -1,44 +1,30 @@
 //! Contraction of a block's graph: the links that every moment of the block holds are found, their ends merged and the
 //! merged nodes numbered anew, and then the ends of the links renamed.
-ghost use Rattle.std.specs.Prelude.{◌≡◌, ℕ, ◌-◌, ◌/◌, ◌^◌, ◌<◌, ◌≤◌, List, [], map, length, take};
+ghost use Rattle.std.specs.Prelude.{◌≡◌, ℕ, ◌-◌, ◌^◌, ◌<◌, ◌≤◌, Bool, List, [], map, length, take};
 ghost use Rattle.block_records.specs.declared.Link.{Link};
-ghost use Rattle.graphs.specs.Forest.{greedy};
+ghost use Rattle.graphs.specs.Graph.{In};
+ghost use Rattle.graphs.specs.Forest.{filtered, greedy};
 ghost use Rattle.graphs.specs.Thin.{roots, relabel};
-ghost use Rattle.forests.specs.Words.{links_in};
+ghost use Rattle.block_records.specs.Words.{links_in};
 ghost use Rattle.forests.specs.Union.{Falls, Holds};
 ghost use Rattle.thinning.specs.Marks.{Under, Below, marked, stacked};
 ghost use Rattle.thinning.specs.Names.{Renames, through};
 
-use forests::{keep_on, link_at, put_link, start, unite};
 use block_records::{BlockNode, Link};
+use forests::{keep_on, start, unite};
 
-/// Joins the ends of the links.
-fn join_all(links: &[u32], parent: &mut [u32])
+/// Joins the ends of the links whose numbers pass a test.
+fn join<F: Fn(u32) -> bool>(links: &[[u32; 3]], parent: &mut [u32], passes: F)
     requires falls { Falls parent.old }
+    requires tests { (e : Link) → In e (links_in links.now) → F.pre passes e.number }
     requires ends { Below (length parent.old) (links_in links.now) }
     ensures falls { Falls parent.new }
-    ensures joins { (K : List Link) → Holds K parent.old → Holds (stacked K (links_in links.now)) parent.new }
+    ensures joins { (p : ℕ → Bool) → ((e : Link) (b : Bool) → In e (links_in links.now) → F.post passes e.number b → b ≡ p e.number) → (K : List Link) → Holds K parent.old → Holds (stacked K (filtered (λ e. p e.number) (links_in links.now))) parent.new }
 {
-    let n = links.len() / 3;
-    for i in 0..n {
-        let e = link_at(links, i);
-        unite(parent, e.a.0, e.b.0);
-    }
-}
-
-/// Joins the ends of the marked links.
-fn join_marked(links: &[u32], marks: &[u32], parent: &mut [u32])
-    requires falls { Falls parent.old }
-    requires under { Under (length marks.now) (links_in links.now) }
-    requires ends { Below (length parent.old) (links_in links.now) }
-    ensures falls { Falls parent.new }
-    ensures joins { (K : List Link) → Holds K parent.old → Holds (stacked K (marked marks.now (links_in links.now))) parent.new }
-{
-    let n = links.len() / 3;
-    for i in 0..n {
-        let e = link_at(links, i);
-        if marks[e.number as usize] == 1 {
-            unite(parent, e.a.0, e.b.0);
+    for words in links {
+        let link = Link::from(*words);
+        if passes(link.number) {
+            unite(parent, link.a.0, link.b.0);
         }
     }
 }
@@ -46,21 +32,21 @@ fn join_marked(links: &[u32], marks: &[u32], parent: &mut [u32])
 /// Copies those of the others, in their order, whose ends the named links and the ones before do not join, and says how
 /// many they are.
 pub(crate) fn merge(
-    links: &[u32],
-    others: &[u32],
+    links: &[[u32; 3]],
+    others: &[[u32; 3]],
     named: &[u32],
-    merged: &mut [u32],
+    merged: &mut [[u32; 3]],
     parent: &mut [u32],
 ) -> usize
     requires size { length parent.old ≤ 2 ^ 32 }
     requires room { length merged.old ≡ length others.now }
     requires named { Under (length named.now) (links_in links.now) }
     requires ends { Below (length parent.old) (links_in links.now) × Below (length parent.old) (links_in others.now) }
-    ensures within { result ≤ length merged.old / 3 }
+    ensures within { result ≤ length merged.old }
     ensures merged { take result (links_in merged.new) ≡ greedy (stacked [] (marked named.now (links_in links.now))) (links_in others.now) }
 {
     start(parent);
-    join_marked(links, named, parent);
+    join(links, parent, |k| named[k as usize] == 1);
     merged.copy_from_slice(others);
     keep_on(merged, parent)
 }
@@ -87,40 +73,39 @@ fn number_classes(parent: &[u32], name: &mut [u32]) -> u32
 }
 
 /// The new numbers of the nodes where the ends of some links are merged; says how many there are. No link changes.
-pub(crate) fn number_nodes(merged: &[u32], parent: &mut [u32], name: &mut [u32]) -> u32
+pub(crate) fn number_nodes(merged: &[[u32; 3]], parent: &mut [u32], name: &mut [u32]) -> u32
     requires size { (0 < length parent.old) × (length parent.old ≤ 2 ^ 32) × (length name.old ≡ length parent.old) }
     requires ends { Below (length parent.old) (links_in merged.now) }
     ensures names { Renames (links_in merged.now) name.new (length parent.old) }
     ensures nodes { result ≡ roots (links_in merged.now) (length parent.old - 1) }
 {
     start(parent);
-    join_all(merged, parent);
+    join(merged, parent, |_| true);
     number_classes(parent, name)
 }
 
 /// Gives the links' ends their new numbers.
-pub(crate) fn rename(links: &mut [u32], name: &[u32])
+pub(crate) fn rename(links: &mut [[u32; 3]], name: &[u32])
     requires { Below (length name.now) (links_in links.old) }
     ensures { links_in links.new ≡ map (through name.now) (links_in links.old) }
 {
-    let n = links.len() / 3;
-    for i in 0..n {
-        let e = link_at(links, i);
-        let new = Link {
-            number: e.number,
-            a: BlockNode(name[e.a.0 as usize]),
-            b: BlockNode(name[e.b.0 as usize]),
+    for words in links.iter_mut() {
+        let link = Link::from(*words);
+        let renamed = Link {
+            number: link.number,
+            a: BlockNode(name[link.a.0 as usize]),
+            b: BlockNode(name[link.b.0 as usize]),
         };
-        put_link(links, i, new);
+        *words = renamed.into();
     }
 }
 
 /// Merges the ends of some links, numbers the merged nodes, renames the ends of a block's links and others, and says how
 /// many nodes are left.
 pub(crate) fn contract(
-    links: &mut [u32],
-    others: &mut [u32],
-    merged: &[u32],
+    links: &mut [[u32; 3]],
+    others: &mut [[u32; 3]],
+    merged: &[[u32; 3]],
     parent: &mut [u32],
     name: &mut [u32],
 ) -> u32

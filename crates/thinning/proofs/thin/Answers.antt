@@ -1,52 +1,33 @@
-use Rattle.std.proofs.Common.{◌≡◌, ℕ, ◌-◌, ◌*◌, ◌<◌, ◌≤◌, List, length, take, ◌∙◌, subst, arith}
-use Rattle.std.proofs.lemmas.List.{length-take-le}
+use Rattle.std.proofs.Common.{◌≡◌, length, take, sym, ◌∙◌, subst, arith}
+use Rattle.std.proofs.lemmas.List.{take-map}
 use Rattle.block_records.specs.declared.Link.{Link}
 use Rattle.graphs.specs.Graph.{In}
 use Rattle.graphs.specs.Forest.{ordered}
 use Rattle.graphs.proofs.Lists.{ordered-in, filtered-sub}
 use Rattle.plans.specs.Places.{place_before}
 use Rattle.plans.proofs.Orders.{strict-places}
-use Rattle.forests.specs.Words.{links_in}
-use Rattle.forests.proofs.Packed.{links-front}
+use Rattle.block_records.specs.Words.{link_of, links_in}
 use Rattle.thinning.specs.Marks.{unmarked, Under}
 use Rattle.thinning.proofs.thin.Goals as goal
+use Rattle.thinning.proofs.thin.Goals.{After-order_others-r}
 
-pub order_others-r-requires : goal.order_others-r-requires
-order_others-r-requires c = record { room = c.requires.room; tables = (c.requires.tables.0, c.requires.tables.2); numbers = c.requires.numbers; ascends = c.requires.ascends }
+-- The others in their order, as a table,
+front : (c : After-order_others-r) → links_in (take c.order_others-r.result c.order_others-r.new.others)
+    ≡ ordered (place_before c.args.places.now) (unmarked c.args.named.now (links_in c.args.links.now))
+front c = sym (take-map link_of c.order_others-r.result c.order_others-r.new.others) ∙ c.order_others-r.ensures.ordered
 
-pub thin_ordered-requires : goal.thin_ordered-requires
-thin_ordered-requires c =
-    let L : List Link = links_in c.args.links.now in
-    let lt = place_before c.args.places.now in
-    let r : ℕ = c.order_others-r.result in
-    let ow : List ℕ = c.order_others-r.new.others in
-    let sw : List ℕ = c.order_others-r.new.spare in
-    let fo : r * 3 ≤ length ow = omega (arith, c.order_others-r.ensures.within, c.order_others-r.auto.others, c.requires.room.0) in
-    let fs : r * 3 ≤ length sw = omega (arith, c.order_others-r.ensures.within, c.order_others-r.auto.spare, c.requires.room.1) in
-    let e : links_in (take (r * 3 - 0) ow) ≡ ordered lt (unmarked c.args.named.now L) = links-front ow r fo ∙ c.order_others-r.ensures.ordered in
-    let sub : (f : Link) → In f (links_in (take (r * 3 - 0) ow)) → In f L = λ f i. filtered-sub _ L f (ordered-in lt _ f (subst (In f) e i)) in
-    let un : (m : ℕ) → length c.args.places.now < m → Under m L = λ m h f i. let n = c.requires.numbers f i in omega (arith, n.1) in
-    let lo = length-take-le (r * 3 - 0) ow (omega arith) in
-    let ls = length-take-le (r * 3 - 0) sw (omega arith) in
-    record {
-      size = c.requires.size;
-      room = omega arith;
-      named = un _ c.requires.tables.0;
-      chosen = (un _ c.requires.tables.1, λ f i. un _ c.requires.tables.1 f (sub f i));
-      ends = (c.requires.ends, λ f i. c.requires.ends f (sub f i));
-      blank = c.requires.blank;
-    }
+-- and each of them is one of the links.
+sub : (c : After-order_others-r) (f : Link) → In f (links_in (take c.order_others-r.result c.order_others-r.new.others)) → In f (links_in c.args.links.now)
+sub c f i = filtered-sub _ (links_in c.args.links.now) f (ordered-in (place_before c.args.places.now) _ f (subst (In f) (front c) i))
 
-pub returns : goal.returns
-returns c =
-    let L : List Link = links_in c.args.links.now in
-    let lt = place_before c.args.places.now in
-    let r : ℕ = c.order_others-r.result in
-    let ow : List ℕ = c.order_others-r.new.others in
-    let fo : r * 3 ≤ length ow = omega (arith, c.order_others-r.ensures.within, c.order_others-r.auto.others, c.requires.room.0) in
-    let e : links_in (take (r * 3 - 0) ow) ≡ ordered lt (unmarked c.args.named.now L) = links-front ow r fo ∙ c.order_others-r.ensures.ordered in
-    record {
-      blank = c.thin_ordered.ensures.blank;
-      within = c.thin_ordered.ensures.within;
-      thinned = c.thin_ordered.ensures.thinned lt (strict-places c.args.places.now) c.requires.ascends e;
-    }
+pub thin_ordered-requires-clause-chosen : goal.thin_ordered-requires-clause-chosen
+thin_ordered-requires-clause-chosen c =
+    let u : Under (length c.args.chosen.now) (links_in c.args.links.now) = λ f i. let n = c.requires.numbers f i in omega (arith, n.1, c.requires.tables.1) in
+    (u, λ f i. u f (sub (goal.at.thin_ordered-requires-clause-chosen c).After-order_others-r f i))
+
+pub thin_ordered-requires-clause-ends : goal.thin_ordered-requires-clause-ends
+thin_ordered-requires-clause-ends c = (c.requires.ends, λ f i. c.requires.ends f (sub (goal.at.thin_ordered-requires-clause-ends c).After-order_others-r f i))
+
+pub returns-clause-thinned : goal.returns-clause-thinned
+returns-clause-thinned c =
+    c.thin_ordered.ensures.thinned (place_before c.args.places.now) (strict-places c.args.places.now) c.requires.ascends (front (goal.at.returns-clause-thinned c).After-order_others-r)

@@ -1,33 +1,28 @@
-use Rattle.std.proofs.Common.{◌≡◌, ℕ, ◌-◌, List, [], length, ap, ◌∙◌, subst, arith}
+use Rattle.std.proofs.Common.{rules, ◌≡◌, ◌-◌, true, List, [], length, ap, ◌∙◌, subst}
 use Rattle.block_records.specs.declared.Link.{Link}
 use Rattle.graphs.specs.Thin.{roots}
-use Rattle.forests.specs.Words.{links_in}
+use Rattle.block_records.specs.Words.{links_in}
 use Rattle.forests.specs.Union.{Holds}
+use Rattle.thinning.specs.Marks.{stacked}
 use Rattle.thinning.specs.Names.{Renames}
+use Rattle.thinning.proofs.Marking.{filtered-all}
 use Rattle.thinning.proofs.Stacking.{label-stacked, holds-labels}
 use Rattle.thinning.proofs.contraction.number_nodes.Goals as goal
+use Rattle.thinning.proofs.contraction.number_nodes.Goals.{After-join}
 
-pub join_all-requires : goal.join_all-requires
-join_all-requires c =
-    let n : length c.start.new.parent ≡ length c.args.parent.now = c.start.auto.parent in
-    record { falls = c.start.ensures.falls; ends = rw n c.requires.ends }
-
-pub number_classes-requires : goal.number_classes-requires
-number_classes-requires c =
-    let n : length c.join_all.new.parent ≡ length c.args.parent.now = c.join_all.auto.parent ∙ c.start.auto.parent in
-    record {
-      falls = c.join_all.ensures.falls;
-      size = (omega (arith, c.requires.size.0), omega (arith, c.requires.size.1), omega (arith, c.requires.size.2));
-    }
-
-pub returns : goal.returns
-returns c =
+-- The table of parents holds the merged links.
+held : (c : After-join) → Holds (links_in c.args.merged.now) c.join.new.parent
+held c =
     let ms : List Link = links_in c.args.merged.now in
-    let ps : List ℕ = c.join_all.new.parent in
-    let n : length ps ≡ length c.args.parent.now = c.join_all.auto.parent ∙ c.start.auto.parent in
-    let h : Holds ms ps = holds-labels _ ms ps (label-stacked ms) (c.join_all.ensures.joins [] c.start.ensures) in
-    let k = c.number_classes.ensures ms h in
-    record {
-      names = subst (Renames ms c.number_classes.new.name) n k.0;
-      nodes = k.1 ∙ ap (λ m. roots ms (m - 1)) n;
-    }
+    let h = c.join.ensures.joins (λ _. true) (λ e b i t. search rules) [] c.start.ensures in
+    holds-labels _ ms c.join.new.parent (label-stacked ms) (subst (λ (es : List Link). Holds (stacked [] es) c.join.new.parent) (filtered-all ms) h)
+
+pub returns-clause-names : goal.returns-clause-names
+returns-clause-names c =
+    let n : length c.join.new.parent ≡ length c.args.parent.now = c.join.auto.parent ∙ c.start.auto.parent in
+    subst (Renames (links_in c.args.merged.now) c.number_classes.new.name) n (c.number_classes.ensures (links_in c.args.merged.now) (held (goal.at.returns-clause-names c).After-join)).0
+
+pub returns-clause-nodes : goal.returns-clause-nodes
+returns-clause-nodes c =
+    let n : length c.join.new.parent ≡ length c.args.parent.now = c.join.auto.parent ∙ c.start.auto.parent in
+    (c.number_classes.ensures (links_in c.args.merged.now) (held (goal.at.returns-clause-nodes c).After-join)).1 ∙ ap (λ m. roots (links_in c.args.merged.now) (m - 1)) n

@@ -1,7 +1,7 @@
 use Rattle.std.proofs.lemmas.List.Filters.{FiltersInPlace}
 use Rattle.block_records.specs.declared.Link.{Link}
 use Rattle.graphs.specs.Thin.{either}
-use Rattle.forests.specs.Words.{links_in}
+use Rattle.block_records.specs.Words.{links_in}
 use Rattle.thinning.specs.Marks.{flag}
 use Rattle.thinning.proofs.marks.retain.Given as goal
 

@@ -1,54 +1,44 @@
-use Rattle.std.proofs.Common.{◌≡◌, ℕ, ◌-◌, ◌*◌, List, [], length, take, sym, ap, ◌∙◌, arith}
-use Rattle.block_records.specs.declared.Link.{Link}
-use Rattle.graphs.specs.Forest.{greedy, ordered}
-use Rattle.forests.specs.Words.{links_in}
-use Rattle.forests.proofs.Packed.{links-front}
-use Rattle.thinning.proofs.Marking.{ends-below, chosen_is, under-greedy, reduced-is}
+use Rattle.std.proofs.Common.{◌≡◌, ℕ, [], length, take, sym, ap, ◌∙◌, arith}
+use Rattle.std.proofs.lemmas.List.{take-map}
+use Rattle.graphs.specs.Forest.{greedy}
+use Rattle.graphs.specs.Thin.{holds}
+use Rattle.block_records.specs.Words.{link_of, links_in}
+use Rattle.thinning.specs.Marks.{flag}
+use Rattle.thinning.proofs.Marking.{ends-below, chosen_is, under-greedy, under-numbers, holds-among, marked-flag, unmarked-flag, reduced-is}
 use Rattle.thinning.proofs.reduction.reduce.Goals as goal
+use Rattle.thinning.proofs.reduction.reduce.Goals.{After-keep-k, After-fill_at}
 
-pub keep-k-requires : goal.keep-k-requires
-keep-k-requires c = record { size = c.requires.size; ends = ends-below _ (links_in c.args.others.now) c.requires.ends }
+-- The others that are kept, as a table.
+front : (c : After-keep-k) → links_in (take c.keep-k.result c.keep-k.new.links) ≡ greedy [] (links_in c.args.others.now)
+front c = sym (take-map link_of c.keep-k.result c.keep-k.new.links) ∙ c.keep-k.ensures.kept
 
-pub mark-requires : goal.mark-requires
-mark-requires c =
-    let os : List Link = links_in c.args.others.now in
-    let k : ℕ = c.keep-k.result in
-    let ws : List ℕ = c.keep-k.new.links in
-    let f : links_in (take (k * 3 - 0) ws) ≡ greedy [] os = links-front ws k (omega (arith, c.keep-k.ensures.within, c.keep-k.auto.links)) ∙ c.keep-k.ensures.kept in
-    record { under = under-greedy (length c.args.chosen.now) [] os _ f c.requires.chosen.1; blank = c.requires.blank }
+-- Their numbers are marked.
+marks : (c : After-fill_at) (k : ℕ) → flag c.fill_at.new.marks k ≡ holds k (links_in (take c.keep-k.result c.keep-k.new.links))
+marks c k = marked-flag c.fill_at.new.marks c.args.chosen.now _ k (c.fill_at.ensures k) c.requires.blank ∙ sym (holds-among k (take c.keep-k.result c.keep-k.new.links))
 
-pub retain-r-requires : goal.retain-r-requires
-retain-r-requires c =
-    let n : length c.mark.new.marks ≡ length c.args.chosen.now = c.mark.auto.marks in
-    record { named = c.requires.named; chosen = rw n c.requires.chosen.0 }
+pub keep-k-requires-clause-ends : goal.keep-k-requires-clause-ends
+keep-k-requires-clause-ends c = ends-below _ (links_in c.args.others.now) c.requires.ends
 
-pub unmark-requires : goal.unmark-requires
-unmark-requires c =
-    let os : List Link = links_in c.args.others.now in
-    let k : ℕ = c.keep-k.result in
-    let ws : List ℕ = c.keep-k.new.links in
-    let f : links_in (take (k * 3 - 0) ws) ≡ greedy [] os = links-front ws k (omega (arith, c.keep-k.ensures.within, c.keep-k.auto.links)) ∙ c.keep-k.ensures.kept in
-    let n : length c.mark.new.marks ≡ length c.args.chosen.now = c.mark.auto.marks in
-    record {
-      under = rw n (under-greedy (length c.args.chosen.now) [] os _ f c.requires.chosen.1);
-      marked = λ j t. sym (c.mark.ensures j) ∙ t;
-    }
+pub fill_at-requires : goal.fill_at-requires
+fill_at-requires c =
+    (omega arith, (omega arith, under-numbers _ _ (under-greedy (length c.args.chosen.now) [] (links_in c.args.others.now) _ (front (goal.at.fill_at-requires c).After-keep-k) c.requires.chosen.1)))
 
-pub returns : goal.returns
-returns c =
-    let es : List Link = links_in c.args.links.now in
-    let os : List Link = links_in c.args.others.now in
-    let k : ℕ = c.keep-k.result in
-    let ws : List ℕ = c.keep-k.new.links in
-    let xs : List Link = links_in (take (k * 3 - 0) ws) in
-    let g : xs ≡ take k (links_in ws) = links-front ws k (omega (arith, c.keep-k.ensures.within, c.keep-k.auto.links)) in
-    let f : xs ≡ greedy [] os = g ∙ c.keep-k.ensures.kept in
-    record {
-      blank = c.unmark.ensures;
-      within = (c.retain-r.ensures.within, c.keep-k.ensures.within);
-      links = c.retain-r.ensures.kept ∙ chosen_is c.args.named.now c.mark.new.marks es xs os c.mark.ensures f;
-      others = c.keep-k.ensures.kept;
-      reduced = λ lt h.
-          let e : xs ≡ greedy [] (ordered lt _) = f ∙ ap (greedy []) h in
-          (c.retain-r.ensures.kept ∙ reduced-is c.args.named.now c.mark.new.marks lt es xs c.mark.ensures e, sym g ∙ e);
-    }
+pub fill_at-requires-2 : goal.fill_at-requires-2
+fill_at-requires-2 c =
+    let n : length c.fill_at.new.marks ≡ length c.args.chosen.now = c.fill_at.auto.marks in
+    (omega arith, (omega arith, rw n (under-numbers _ _ (under-greedy (length c.args.chosen.now) [] (links_in c.args.others.now) _ (front (goal.at.fill_at-requires-2 c).After-keep-k) c.requires.chosen.1))))
+
+pub returns-clause-blank : goal.returns-clause-blank
+returns-clause-blank c = λ k.
+    unmarked-flag c.fill_at-2.new.marks c.fill_at.new.marks _ k (c.fill_at-2.ensures k) (marks (goal.at.returns-clause-blank c).After-fill_at k ∙ holds-among k (take c.keep-k.result c.keep-k.new.links))
+
+pub returns-clause-links : goal.returns-clause-links
+returns-clause-links c =
+    c.retain-r.ensures.kept ∙ chosen_is c.args.named.now c.fill_at.new.marks (links_in c.args.links.now) _ (links_in c.args.others.now) (marks (goal.at.returns-clause-links c).After-fill_at) (front (goal.at.returns-clause-links c).After-keep-k)
+
+pub returns-clause-reduced : goal.returns-clause-reduced
+returns-clause-reduced c = λ lt h.
+    let e = front (goal.at.returns-clause-reduced c).After-keep-k ∙ ap (greedy []) h in (
+      c.retain-r.ensures.kept ∙ reduced-is c.args.named.now c.fill_at.new.marks lt (links_in c.args.links.now) _ (marks (goal.at.returns-clause-reduced c).After-fill_at) e,
+      c.keep-k.ensures.kept ∙ ap (greedy []) h,
+    )
