@@ -2,7 +2,10 @@
 use Rattle.std.proofs.Common.{◌≡◌, ℕ, zero, suc, ◌+◌, ◌-◌, ◌*◌, ◌^◌, ◌<◌, ◌≤◌, min, List, [], ◌∷◌, ◌++◌, length, take, drop, sym, refl, ap, ◌∙◌, ap₂, inl, inr, mul-le-mul, arith}
 use Rattle.std.proofs.lemmas.Bool.{cases_lt}
 use Rattle.std.proofs.lemmas.Bool.Decides.{nat_tests}
-use Rattle.std.proofs.lemmas.List.{length-drop, take_all, drop_all, drop-drop}
+use Rattle.std.proofs.lemmas.List.{length-drop, length-map, length-take-le, take-map, drop-map, map-append, take_all, drop_all, drop-drop}
+use Rattle.std.proofs.lemmas.Slice.{take-put_mid}
+use borrow.Rule.Slice.PartMut.{put_mid}
+use Rattle.block_records.specs.Words.{move_of, moves_in, exchange_of, entries_in}
 use Rattle.block_records.specs.declared.Link.{Link}
 use Rattle.graphs.specs.Thin.{Block}
 use Rattle.block_records.specs.declared.Move.{Move}
@@ -77,6 +80,35 @@ module _ (P0 P : List ℕ) (g : Block) (all : List (Move ℕ)) (out : List Entry
             ∙ sym (entries-append P0 g.links (take i all) S) ∙ ap (entries P0 g.links) t;
         counts = omega arith;
       }
+
+-- The changes of the top block that begins at i and ends before j, in a table of moves.
+pub record Top (es : List Link) (table : List (List ℕ)) (i j : ℕ) : Type 0 where
+  pub lt : i < length (moves_in table)
+  pub some : 1 ≤ length es
+  pub end : j ≡ min (length (moves_in table)) (i + length es)
+  pub part : moves_in (take (j - i) (drop i table)) ≡ take (j - i) (drop i (moves_in table))
+  pub long : length (take (j - i) (drop i table)) ≡ j - i
+
+pub top : (n m : ℕ) (es : List Link) (table : List (List ℕ)) (i j : ℕ) → Sound n m es (moves_in table) → i < length table → j ≡ min (length table) (i + length es) → Top es table i j
+top n m es table i j s l e =
+    let k = length-map table move_of in
+    let d = length-drop i table in
+    let b = s.known 0 (omega arith) in
+    let t = length-take-le (j - i) (drop i table) (omega (arith, s.many)) in
+    record {
+      lt = omega arith;
+      some = omega (arith, s.many);
+      end = e ∙ ap (λ x. min x (i + length es)) (sym k);
+      part = sym (ap (take (j - i)) (drop-map move_of i table) ∙ take-map move_of (j - i) (drop i table));
+      long = t;
+    }
+
+-- Entries written over the part of a table from i to j.
+pub written : (out o : List (List ℕ)) (i j : ℕ) → i ≤ j → i ≤ length out → length o ≡ j - i
+    → take j (entries_in (put_mid i (j - i) out o)) ≡ take i (entries_in out) ++ entries_in o
+written out o i j h l n =
+    take-map exchange_of j (put_mid i (j - i) out o) ∙ ap entries_in (take-put_mid i (j - i) out o j (omega arith) l)
+    ∙ map-append exchange_of (take i out) o ∙ ap (λ (x : List Entry). x ++ entries_in o) (sym (take-map exchange_of i out))
 
 pub made_all : (P0 P : List ℕ) (g : Block) (all : List (Move ℕ)) (out : List Entry) (count i : ℕ) → Made P0 P g all out count i → length all ≤ i → length out ≡ length all
     → (P ≡ moved_by P0 all) × (out ≡ entries P0 g.links all) × (count ≡ work P0 g all)

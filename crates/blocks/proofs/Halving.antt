@@ -1,9 +1,8 @@
 -- A block and its halves.
-use Rattle.std.proofs.Common.{◌≡◌, ℕ, ◌+◌, ◌-◌, ◌*◌, ◌/◌, ◌<◌, ◌≤◌, List, [], ◌∷◌, ◌++◌, length, get_or, take, drop, set, sym, refl, ap, ◌∙◌, subst, ap₂, inl, inr, arith}
+use Rattle.std.proofs.Common.{◌≡◌, ℕ, ◌+◌, ◌-◌, ◌*◌, ◌<◌, ◌≤◌, List, [], ◌∷◌, ◌++◌, length, get_or, take, drop, set, sym, refl, ap, ◌∙◌, subst, ap₂, inl, inr, arith}
 use mathlib.Core.Path.{fun_ext}
-use borrow.Rule.Slice.PartMut.{put_mid}
 use Rattle.std.proofs.lemmas.Bool.{cases_lt}
-use Rattle.std.proofs.lemmas.List.{get_or-take, get_or-drop, length-take, length-take-le, length-drop, take_rest, take_at, drop_at, drop_all, append-nil, take-append-drop}
+use Rattle.std.proofs.lemmas.List.{get_or-take, get_or-drop, length-take, length-drop, take-append-drop}
 use Rattle.block_records.specs.declared.Link.{Link}
 use Rattle.graphs.specs.Thin.{Block, thinned, contracted}
 use Rattle.graphs.specs.Thinning.{merges}
@@ -17,12 +16,11 @@ use Rattle.plans.proofs.Orders.{strict-places}
 use Rattle.plans.proofs.Halves.{names-all, entries-thinned, entries-split, moved-append}
 use Rattle.plans.proofs.Kept.{keeps-thinned, small-thinned}
 use Rattle.plans.proofs.Work.{block-few, block-split}
-use Rattle.thinning.specs.Marks.{flag, Blank, Ascends, Numbers}
+use Rattle.thinning.specs.Marks.{flag, Ascends, Numbers}
 use Rattle.thinning.proofs.Merging.{ascends-distinct, ascends-reduced, ascends-relabel, roots-low}
-use Rattle.leaves.specs.Words.{move, moves_in, exchange, entries_in}
 use Rattle.blocks.specs.Rooms.{Scratch, Room}
 use Rattle.blocks.specs.Block.{no_move, Known, Nodes, Fits}
-use Rattle.leaves.proofs.Pairs.{length_pairs, pairs-front, pairs-part, pairs-append}
+use Rattle.blocks.specs.declared.tables.Tables.{Tables}
 
 pub named-flags : (ms : List ℕ) (cs : List (Move ℕ)) → ((k : ℕ) → flag ms k ≡ named cs k) → flag ms ≡ named cs
 named-flags ms cs h = fun_ext h
@@ -103,21 +101,6 @@ known-drop m k cs h i l =
     let x = h (k + i) (omega arith) in
     subst (λ (c : Move ℕ). (1 ≤ c.link) × (c.link ≤ m)) (sym (get_or-drop k cs i no_move)) x
 
--- The halves as code cuts them.
-pub half-first : (ws : List ℕ) → moves_in (take ((length ws / 2 + 1) / 2 * 2 - 0) ws) ≡ take (half (moves_in ws)) (moves_in ws)
-half-first ws =
-    let n = length_pairs move ws in
-    let e : (length ws / 2 + 1) / 2 ≡ half (moves_in ws) = omega arith in
-    pairs-front move ws ((length ws / 2 + 1) / 2) (omega arith) ∙ ap (λ k. take k (moves_in ws)) e
-
-pub half-other : (ws : List ℕ) → 1 ≤ length ws / 2 → moves_in (take (length ws / 2 * 2 - (length ws / 2 + 1) / 2 * 2) (drop ((length ws / 2 + 1) / 2 * 2) ws)) ≡ drop (half (moves_in ws)) (moves_in ws)
-half-other ws l =
-    let n = length_pairs move ws in
-    let e : (length ws / 2 + 1) / 2 ≡ half (moves_in ws) = omega arith in
-    let d : length ws / 2 - (length ws / 2 + 1) / 2 ≡ length (moves_in ws) - half (moves_in ws) = omega arith in
-    pairs-part move ws ((length ws / 2 + 1) / 2) (length ws / 2) (omega arith) (omega arith)
-    ∙ ap₂ (λ (j k : ℕ). take j (drop k (moves_in ws))) d e ∙ take_rest (moves_in ws) (half (moves_in ws))
-
 pub known-first : (m : ℕ) (cs F : List (Move ℕ)) → F ≡ take (half cs) cs → Known m cs → Known m F
 known-first m cs F e h = subst (Known m) (sym e) (known-take m (half cs) cs h)
 
@@ -145,20 +128,6 @@ single-entry (o ∷ p ∷ out) places es cs v h l e = absurd (omega arith)
 
 pub single-work : (places : List ℕ) (g : Block) (cs : List (Move ℕ)) → length cs ≡ 1 → block_work (length cs) places g cs ≡ length g.links
 single-work places g cs h = block-few (length cs) places g cs (omega arith)
-
--- Both halves of the entries, written.
-whole : (a k : ℕ) (o1 r o2 : List ℕ) → length o1 ≡ a → length r ≡ k → put_mid a k (o1 ++ r) o2 ≡ o1 ++ o2
-whole a k o1 r o2 h1 h2 =
-    let e1 = take_at o1 r a h1 in
-    let e2 = drop_at o1 r a h1 in
-    let e3 = drop_all k r (omega arith) in
-    rw (e1, e2, e3) (ap (λ x. o1 ++ x) (append-nil o2))
-
-pub whole-entries : (h n : ℕ) (o1 out o2 : List ℕ) → length o1 ≡ h * 2 → length out ≡ n * 2 → h ≤ n
-    → entries_in (put_mid (h * 2) (n * 2 - h * 2) (o1 ++ drop (h * 2 - 0) out) o2) ≡ entries_in o1 ++ entries_in o2
-whole-entries h n o1 out o2 a b l =
-    let d = length-drop (h * 2 - 0) out in
-    ap entries_in (whole (h * 2) (n * 2 - h * 2) o1 (drop (h * 2 - 0) out) o2 a (omega arith)) ∙ pairs-append exchange o1 o2 h a
 
 -- The parts of a block as code cuts them.
 module _ (places : List ℕ) (m n : ℕ) (es : List Link) (cs : List (Move ℕ)) (f : Fits n m es cs) (n2 : ℕ) (es2 : List Link)
@@ -189,29 +158,21 @@ first-length cs F e h = let n = length-take (half cs) cs in let l = ap length e 
 pub other_length : (cs R : List (Move ℕ)) → R ≡ drop (half cs) cs → 2 ≤ length cs → length R ≡ length cs - half cs
 other_length cs R e h = let d = length-drop (half cs) cs in let l = ap length e in omega arith
 
--- Where the rest of the entries goes.
-pub rest-length : (o1 out : List ℕ) (h n : ℕ) → length o1 ≡ h * 2 → length out ≡ n * 2 → h ≤ n
-    → length (take (n * 2 - h * 2) (drop (h * 2) (o1 ++ drop (h * 2 - 0) out))) ≡ n * 2 - h * 2
-rest-length o1 out h n a b l =
-    let d = length-drop (h * 2 - 0) out in
-    let e = ap length (drop_at o1 (drop (h * 2 - 0) out) (h * 2) a) in
-    length-take-le (n * 2 - h * 2) (drop (h * 2) (o1 ++ drop (h * 2 - 0) out)) (omega arith)
-
 -- The tables serve a part as well.
-pub scratch-kept : {n m : ℕ} {M C T : List ℕ} → Scratch n m M C T → (n2 m2 : ℕ) (M2 C2 T2 : List ℕ) → n2 ≤ n → m2 ≡ m
-    → length M2 ≡ length M → length C2 ≡ length C → length T2 ≡ length T → Blank M2 × Blank C2 → Scratch n2 m2 M2 C2 T2
-scratch-kept s n2 m2 M2 C2 T2 a b p q r k = record {
+pub scratch-part : {n m : ℕ} {t : Tables} → Scratch n m t → (n2 : ℕ) → n2 ≤ n → Scratch n2 m t
+scratch-part s n2 a = record {
   small = omega (arith, s.small);
-  few = omega (arith, s.few);
-  marks-long = omega (arith, s.marks-long);
-  chosen-long = omega (arith, s.chosen-long);
-  table-long = omega (arith, s.table-long);
-  marks-blank = k.0;
-  chosen-blank = k.1;
+  few = s.few;
+  marks-long = s.marks-long;
+  chosen-long = s.chosen-long;
+  parent-long = omega (arith, s.parent-long);
+  name-long = omega (arith, s.name-long);
+  marks-blank = s.marks-blank;
+  chosen-blank = s.chosen-blank;
 }
 
-pub room-part : {base changes out work : ℕ} → Room base changes out work → (base2 changes2 out2 rest r : ℕ) → rest + base ≡ work → base2 ≡ r * 3 → r ≤ 2 * changes
-    → 2 ≤ changes → changes2 * 2 ≤ changes + 1 → out2 ≡ changes2 * 2 → Room base2 changes2 out2 rest
+pub room-part : {base changes out work : ℕ} → Room base changes out work → (base2 changes2 out2 rest r : ℕ) → rest + base ≡ work → base2 ≡ r → r ≤ 2 * changes
+    → 2 ≤ changes → changes2 * 2 ≤ changes + 1 → out2 ≡ changes2 → Room base2 changes2 out2 rest
 room-part h base2 changes2 out2 rest r a b c d e f = record { entries = f; copies = omega (arith, h.deeper); deeper = omega (arith, h.deeper) }
 
 pub work-least : (places : List ℕ) (g : Block) (cs : List (Move ℕ)) → length g.links ≤ block_work (length cs) places g cs

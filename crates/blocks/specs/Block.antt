@@ -6,10 +6,13 @@ use Rattle.block_records.specs.declared.Move.{Move}
 use Rattle.plans.specs.Work.{work}
 use Rattle.graphs.specs.Thin.{Block}
 use Rattle.thinning.specs.Marks.{Ascends, Numbers}
+use Rattle.block_records.specs.Words.{no_move, links_in}
+use Rattle.blocks.specs.declared.tables.Graph.{Graph}
+pub use Rattle.block_records.specs.Words.{no_move}
 
--- No move.
-abbrev pub no_move : Move ℕ
-no_move = record { link = 0; to = 0 }
+-- A graph as a block takes it.
+abbrev pub graph_of : Graph → Block
+graph_of g = record { nodes = g.nodes; links = links_in g.links.now }
 
 -- The changes are to links from 1 to m.
 abbrev pub Known : ℕ → List (Move ℕ) → Type 0

@@ -1,303 +1,226 @@
-use Rattle.std.proofs.Common.{◌≡◌, ℕ, ◌+◌, ◌-◌, ◌*◌, ◌/◌, ◌^◌, ◌<◌, ◌≤◌, List, ◌++◌, length, get_or, take, drop, sym, refl, ap, ◌∙◌, subst, arith}
-use Rattle.std.proofs.lemmas.List.{length-append, length-drop, length-take-le}
+use Rattle.std.proofs.Common.{◌≡◌, ℕ, ◌+◌, ◌-◌, ◌*◌, ◌^◌, ◌<◌, ◌≤◌, List, [], length, get_or, take, drop, set, sym, refl, ap, ◌∙◌, subst, arith}
+use Rattle.std.proofs.lemmas.List.{length-map, get_or-map, map-set, map-append, take-map, drop-map}
 use Rattle.block_records.specs.declared.Link.{Link}
 use Rattle.block_records.specs.declared.Move.{Move}
-use Rattle.plans.specs.Places.{moved, moved_by}
+use Rattle.plans.specs.Places.{moved}
 use Rattle.plans.specs.Plan.{tree_at, entry}
 use Rattle.plans.specs.Work.{half, thinned_for, block_work}
-use Rattle.forests.specs.Words.{links_in}
-use Rattle.forests.proofs.Packed.{length-links, links-front}
+use Rattle.block_records.specs.Words.{link_of, links_in, move_of, moves_in, exchange_of, entries_in}
 use Rattle.leaves.specs.declared.tally.Tally.{Tally}
-use Rattle.leaves.specs.Words.{move, moves_in, exchange, entries_in}
 use Rattle.blocks.specs.Rooms.{Scratch, Room}
-use Rattle.blocks.specs.Block.{no_move, Fits}
-use Rattle.leaves.proofs.Pairs.{length_pairs, pairs-at}
-use Rattle.blocks.proofs.Halving.{block_of, part-fits, part_small, part-fewer, part-entries, single-moved, single-entry, single-work, whole-entries, work-least, half-first, half-other, slice-work, slice-entries, slice-moved, rest-length, first-length, other_length, known-first, known-other, scratch-kept, room-part}
+use Rattle.blocks.specs.Block.{no_move, graph_of, Fits}
+use Rattle.blocks.proofs.Halving.{block_of, part-fits, part_small, part-fewer, part-entries, single-moved, single-entry, single-work, work-least, slice-work, slice-entries, slice-moved, first-length, other_length, known-first, known-other, scratch-part, room-part}
 use Rattle.blocks.proofs.Telling.{received, told-up, told-one, told-halves}
 use Rattle.blocks.proofs.block.+block.Goals as goal
+use Rattle.blocks.proofs.block.+block.Goals.{After-prepare-nodes, After-receive-met, After-from-change, After-leaf, After-split_at}
 
-pub prepare_in-left-requires : goal.prepare_in-left-requires
-prepare_in-left-requires t c =
-    let ow : length c.split_at_mut-own.result.0.now ≡ length c.args.base.now = c.split_at_mut-own.ensures.front_len in
-    let back : length c.split_at_mut-own.result.1.now + length c.args.base.now ≡ length c.args.work.now = c.split_at_mut-own.ensures.back_len in
-    record { fits = c.requires.fits; room = (ow, omega (arith, c.requires.room.copies)); scratch = c.requires.scratch }
+-- What is left is the thinned graph.
+left : (t : ℕ) (c : After-prepare-nodes t) → block_of c.prepare-nodes.result.0 (links_in (take c.prepare-nodes.result.1 c.prepare-nodes.new.own))
+    ≡ thinned_for c.args.places.now (moves_in c.args.moves.now) (graph_of c.args.graph)
+left t c = ap (block_of c.prepare-nodes.result.0) (sym (take-map link_of c.prepare-nodes.result.1 c.prepare-nodes.new.own)) ∙ c.prepare-nodes.ensures.thinned
+
+-- It fits the same changes.
+fits : (t : ℕ) (c : After-prepare-nodes t) → Fits c.prepare-nodes.result.0 (length c.args.places.now) (links_in (take c.prepare-nodes.result.1 c.prepare-nodes.new.own)) (moves_in c.args.moves.now)
+fits t c = part-fits c.args.places.now (length c.args.places.now) c.args.graph.nodes (links_in c.args.graph.links.now) (moves_in c.args.moves.now) c.requires.fits _ _ (left t c) (moves_in c.args.moves.now) c.requires.fits.some c.requires.fits.known
+
+small : (t : ℕ) (c : After-prepare-nodes t) → length (take c.prepare-nodes.result.1 c.prepare-nodes.new.own) ≤ 2 * length c.args.moves.now
+small t c =
+    let T = take c.prepare-nodes.result.1 c.prepare-nodes.new.own in
+    let s = part_small c.args.places.now (length c.args.places.now) c.args.graph.nodes (links_in c.args.graph.links.now) (moves_in c.args.moves.now) c.requires.fits c.prepare-nodes.result.0 (links_in T) (left t c) in
+    omega (arith, length-map T link_of, length-map c.args.moves.now move_of)
+
+-- The tally with the links received.
+met : (t : ℕ) (c : After-receive-met t) → c.receive-met.result
+    ≡ record { absent = c.args.tally.absent; work = c.args.tally.work + length (links_in c.args.graph.links.now); changes = c.args.tally.changes; tear = c.args.tally.tear }
+met t c = received c.args.tally c.receive-met.result (length c.args.graph.links.now) (length (links_in c.args.graph.links.now)) (length-map c.args.graph.links.now link_of) c.receive-met.ensures
 
 pub receive-met-requires : goal.receive-met-requires
 receive-met-requires t c =
-    let w = work-least c.args.places.now (block_of c.args.nodes (links_in c.args.base.now)) (moves_in c.args.moves.now) in
-    let el = length-links c.args.base.now in
-    omega (arith, c.requires.count.0)
+    let w = work-least c.args.places.now (graph_of c.args.graph) (moves_in c.args.moves.now) in
+    omega (arith, c.requires.count.0, length-map c.args.graph.links.now link_of)
 
-pub leaf-exchanged-requires : goal.leaf-exchanged-requires
-leaf-exchanged-requires t c =
-    let W : List ℕ = c.args.moves.now in
-    let cs : List (Move ℕ) = moves_in W in
-    let es : List Link = links_in c.args.base.now in
+-- A single change.
+change : (t : ℕ) (c : After-from-change t) → c.from-change.result ≡ get_or (moves_in c.args.moves.now) 0 no_move
+change t c = c.from-change.ensures ∙ sym (get_or-map move_of c.args.moves.now 0 [] no_move (omega (arith, c.if-moves-eq1.true)))
+
+one : (t : ℕ) (c : After-from-change t) → length (moves_in c.args.moves.now) ≡ 1
+one t c = length-map c.args.moves.now move_of ∙ c.if-moves-eq1.true
+
+placed : (t : ℕ) (c : After-leaf t) → c.leaf.new.places ≡ moved c.args.places.now (get_or (moves_in c.args.moves.now) 0 no_move)
+placed t c =
+    c.leaf.ensures.places
+    ∙ ap (moved c.args.places.now) (c.from-change.ensures ∙ sym (get_or-map move_of c.args.moves.now 0 [] no_move (omega (arith, c.if-moves-eq1.true))))
+
+pub leaf-requires-clause-few : goal.leaf-requires-clause-few
+leaf-requires-clause-few t c = omega (arith, small t (goal.at.leaf-requires-clause-few t c).After-prepare-nodes)
+
+pub leaf-requires-clause-ascends : goal.leaf-requires-clause-ascends
+leaf-requires-clause-ascends t c = (fits t (goal.at.leaf-requires-clause-ascends t c).After-prepare-nodes).ascends
+
+pub leaf-requires-clause-known : goal.leaf-requires-clause-known
+leaf-requires-clause-known t c =
+    let a = ap (λ (d : Move ℕ). d.link) (change t (goal.at.leaf-requires-clause-known t c).After-from-change) in
+    let k = c.requires.fits.known 0 c.requires.fits.some in
+    (omega (arith, k.0), omega (arith, k.1))
+
+pub tell-requires-clause-few : goal.tell-requires-clause-few
+tell-requires-clause-few t c = omega (arith, small t (goal.at.tell-requires-clause-few t c).After-prepare-nodes)
+
+pub tell-requires-clause-ascends : goal.tell-requires-clause-ascends
+tell-requires-clause-ascends t c = (fits t (goal.at.tell-requires-clause-ascends t c).After-prepare-nodes).ascends
+
+pub returns-then-moves-eq1-clause-places : goal.returns-then-moves-eq1-clause-places
+returns-then-moves-eq1-clause-places t c =
+    placed t (goal.at.returns-then-moves-eq1-clause-places t c).After-leaf
+    ∙ single-moved c.args.places.now (moves_in c.args.moves.now) (one t (goal.at.returns-then-moves-eq1-clause-places t c).After-from-change)
+
+pub returns-then-moves-eq1-clause-entries : goal.returns-then-moves-eq1-clause-entries
+returns-then-moves-eq1-clause-entries t c =
+    let p = goal.at.returns-then-moves-eq1-clause-entries t c in
     let ps : List ℕ = c.args.places.now in
-    let N : ℕ = c.args.nodes in
-    let own : List ℕ = c.prepare_in-left.new.own in
-    let r : ℕ = c.prepare_in-left.result.1 in
-    let n2 : ℕ = c.prepare_in-left.result.0 in
-    let es2 : List Link = links_in (take (r * 3 - 0) own) in
-    let nl : length cs ≡ length W / 2 = length_pairs move W in
-    let el : length es ≡ length c.args.base.now / 3 = length-links c.args.base.now in
-    let ow : length c.split_at_mut-own.result.0.now ≡ length c.args.base.now = c.split_at_mut-own.ensures.front_len in
-    let lw : r * 3 ≤ length own = omega (arith, c.prepare_in-left.ensures.within, c.prepare_in-left.auto.own) in
-    let f : Fits N (length ps) es cs = c.requires.fits in
-    let G : block_of n2 es2 ≡ thinned_for ps cs (block_of N es) = ap (block_of n2) (links-front own r lw) ∙ c.prepare_in-left.ensures.thinned in
-    let P : Fits n2 (length ps) es2 cs = part-fits ps (length ps) N es cs f n2 es2 G cs f.some f.known in
-    let small : length es2 ≤ 2 * length cs = part_small ps (length ps) N es cs f n2 es2 G in
-    let a : (get_or cs 0 no_move).link ≡ c.move_at.result.link = ap (λ (d : Move ℕ). d.link) (pairs-at move W 0 no_move (omega arith) ∙ sym c.move_at.ensures) in
-    let k = f.known 0 f.some in
-    record { few = omega arith; ascends = P.ascends; known = (omega (arith, k.0), omega (arith, k.1)) }
+    let cs : List (Move ℕ) = moves_in c.args.moves.now in
+    let es2 : List Link = links_in (take c.prepare-nodes.result.1 c.prepare-nodes.new.own) in
+    let e : exchange_of c.into.result ≡ c.leaf.result = ap exchange_of c.into.ensures in
+    map-set exchange_of c.args.out.now 0 c.into.result ∙ ap (set (entries_in c.args.out.now) 0) e
+    ∙ single-entry (entries_in c.args.out.now) ps es2 cs c.leaf.result (one t p.After-from-change)
+    (length-map c.args.out.now exchange_of ∙ c.requires.room.entries ∙ sym (length-map c.args.moves.now move_of))
+    (c.leaf.ensures.entry ∙ ap (λ (x : Move ℕ). entry (tree_at ps es2) (tree_at (moved ps x) es2)) (change t p.After-from-change))
+    ∙ sym (part-entries ps (length ps) c.args.graph.nodes (links_in c.args.graph.links.now) cs c.requires.fits _ es2 (left t p.After-prepare-nodes))
 
-pub put_entry-requires : goal.put_entry-requires
-put_entry-requires t c =
-    let nl : length (moves_in c.args.moves.now) ≡ length c.args.moves.now / 2 = length_pairs move c.args.moves.now in
-    omega (arith, c.requires.room.entries)
-
-pub tell-requires : goal.tell-requires
-tell-requires t c =
-    let W : List ℕ = c.args.moves.now in
-    let cs : List (Move ℕ) = moves_in W in
-    let es : List Link = links_in c.args.base.now in
+pub returns-then-moves-eq1-clause-told : goal.returns-then-moves-eq1-clause-told
+returns-then-moves-eq1-clause-told t c =
+    let p = goal.at.returns-then-moves-eq1-clause-told t c in
     let ps : List ℕ = c.args.places.now in
-    let N : ℕ = c.args.nodes in
-    let own : List ℕ = c.prepare_in-left.new.own in
-    let r : ℕ = c.prepare_in-left.result.1 in
-    let n2 : ℕ = c.prepare_in-left.result.0 in
-    let es2 : List Link = links_in (take (r * 3 - 0) own) in
-    let nl : length cs ≡ length W / 2 = length_pairs move W in
-    let el : length es ≡ length c.args.base.now / 3 = length-links c.args.base.now in
-    let ow : length c.split_at_mut-own.result.0.now ≡ length c.args.base.now = c.split_at_mut-own.ensures.front_len in
-    let lw : r * 3 ≤ length own = omega (arith, c.prepare_in-left.ensures.within, c.prepare_in-left.auto.own) in
-    let f : Fits N (length ps) es cs = c.requires.fits in
-    let G : block_of n2 es2 ≡ thinned_for ps cs (block_of N es) = ap (block_of n2) (links-front own r lw) ∙ c.prepare_in-left.ensures.thinned in
-    let T : Tally = c.args.tally in
-    let m : Tally = c.receive-met.result in
-    let me : m ≡ record { absent = T.absent; work = T.work + length es; whole = T.whole; torn = T.torn } = received T m (length c.args.base.now / 3) (length es) el c.receive-met.ensures in
-    let mw : m.work ≡ T.work + length es = ap (λ (x : Tally). x.work) me in
-    let mh : m.whole ≡ T.whole = ap (λ (x : Tally). x.whole) me in
-    let P : Fits n2 (length ps) es2 cs = part-fits ps (length ps) N es cs f n2 es2 G cs f.some f.known in
-    let small : length es2 ≤ 2 * length cs = part_small ps (length ps) N es cs f n2 es2 G in
-    record { few = omega arith; ascends = P.ascends; fits = omega (arith, c.requires.count.1) }
+    let cs : List (Move ℕ) = moves_in c.args.moves.now in
+    let es2 : List Link = links_in (take c.prepare-nodes.result.1 c.prepare-nodes.new.own) in
+    let w = single-work ps (graph_of c.args.graph) cs (one t p.After-from-change) in
+    told-up c.args.tally c.receive-met.result c.tell.result 0 _ ps (length ps) c.args.graph.nodes (links_in c.args.graph.links.now) cs c.requires.fits _ es2
+    (left t p.After-prepare-nodes) (met t p.After-receive-met) (omega arith)
+    (told-one c.receive-met.result c.tell.result ps c.leaf.new.places es2 cs (one t p.After-from-change) (placed t p.After-leaf) c.tell.ensures)
 
-pub returns-then-n-eq1 : goal.returns-then-n-eq1
-returns-then-n-eq1 t c =
-    let W : List ℕ = c.args.moves.now in
-    let cs : List (Move ℕ) = moves_in W in
-    let es : List Link = links_in c.args.base.now in
-    let ps : List ℕ = c.args.places.now in
-    let N : ℕ = c.args.nodes in
-    let own : List ℕ = c.prepare_in-left.new.own in
-    let r : ℕ = c.prepare_in-left.result.1 in
-    let n2 : ℕ = c.prepare_in-left.result.0 in
-    let es2 : List Link = links_in (take (r * 3 - 0) own) in
-    let nl : length cs ≡ length W / 2 = length_pairs move W in
-    let el : length es ≡ length c.args.base.now / 3 = length-links c.args.base.now in
-    let ow : length c.split_at_mut-own.result.0.now ≡ length c.args.base.now = c.split_at_mut-own.ensures.front_len in
-    let lw : r * 3 ≤ length own = omega (arith, c.prepare_in-left.ensures.within, c.prepare_in-left.auto.own) in
-    let f : Fits N (length ps) es cs = c.requires.fits in
-    let G : block_of n2 es2 ≡ thinned_for ps cs (block_of N es) = ap (block_of n2) (links-front own r lw) ∙ c.prepare_in-left.ensures.thinned in
-    let T : Tally = c.args.tally in
-    let m : Tally = c.receive-met.result in
-    let me : m ≡ record { absent = T.absent; work = T.work + length es; whole = T.whole; torn = T.torn } = received T m (length c.args.base.now / 3) (length es) el c.receive-met.ensures in
-    let mw : m.work ≡ T.work + length es = ap (λ (x : Tally). x.work) me in
-    let mh : m.whole ≡ T.whole = ap (λ (x : Tally). x.whole) me in
-    let one : length cs ≡ 1 = omega arith in
-    let out : List ℕ = c.args.out.now in
-    let lo : length (entries_in out) ≡ length cs = length_pairs exchange out ∙ omega (arith, c.requires.room.entries) in
-    let d : Move ℕ = c.move_at.result in
-    let ed : d ≡ get_or cs 0 no_move = sym (pairs-at move W 0 no_move (omega arith) ∙ sym c.move_at.ensures) in
-    let pl : c.leaf-exchanged.new.places ≡ moved ps (get_or cs 0 no_move) = c.leaf-exchanged.ensures.places ∙ ap (moved ps) ed in
-    record {
-      blank = c.prepare_in-left.ensures.blank;
-      places = pl ∙ single-moved ps cs one;
-      entries = c.put_entry.ensures ∙ single-entry (entries_in out) ps es2 cs c.leaf-exchanged.result one lo (c.leaf-exchanged.ensures.entry ∙ ap (λ (x : Move ℕ). entry (tree_at ps es2) (tree_at (moved ps x) es2)) ed)
-          ∙ sym (part-entries ps (length ps) N es cs f n2 es2 G);
-      told = told-up T m c.tell.result 0 _ ps (length ps) N es cs f n2 es2 G me (let w = single-work ps (block_of N es) cs one in omega arith)
-          (told-one m c.tell.result ps c.leaf-exchanged.new.places es2 cs one pl c.tell.ensures);
-    }
+-- Two changes or more: the halves as code cuts them.
+more : (t : ℕ) (c : After-split_at t) → 2 ≤ length (moves_in c.args.moves.now)
+more t c = omega (arith, c.requires.fits.some, c.if-moves-eq1.false, length-map c.args.moves.now move_of)
+
+mid : (t : ℕ) (c : After-split_at t) → c.div_ceil-mid.result ≡ half (moves_in c.args.moves.now)
+mid t c = omega (arith, c.div_ceil-mid.ensures, length-map c.args.moves.now move_of)
+
+first : (t : ℕ) (c : After-split_at t) → moves_in c.split_at.result.0.now ≡ take (half (moves_in c.args.moves.now)) (moves_in c.args.moves.now)
+first t c =
+    ap moves_in c.split_at.ensures.front ∙ sym (take-map move_of c.div_ceil-mid.result c.args.moves.now) ∙ ap (λ n. take n (moves_in c.args.moves.now)) (mid t c)
+
+last : (t : ℕ) (c : After-split_at t) → moves_in c.split_at.result.1.now ≡ drop (half (moves_in c.args.moves.now)) (moves_in c.args.moves.now)
+last t c =
+    ap moves_in c.split_at.ensures.back ∙ sym (drop-map move_of c.div_ceil-mid.result c.args.moves.now) ∙ ap (λ n. drop n (moves_in c.args.moves.now)) (mid t c)
 
 pub block-sum-requires : goal.block-sum-requires
 block-sum-requires t c =
-    let W : List ℕ = c.args.moves.now in
-    let cs : List (Move ℕ) = moves_in W in
-    let es : List Link = links_in c.args.base.now in
+    let p = goal.at.block-sum-requires t c in
     let ps : List ℕ = c.args.places.now in
-    let N : ℕ = c.args.nodes in
-    let own : List ℕ = c.prepare_in-left.new.own in
-    let r : ℕ = c.prepare_in-left.result.1 in
-    let n2 : ℕ = c.prepare_in-left.result.0 in
-    let es2 : List Link = links_in (take (r * 3 - 0) own) in
-    let nl : length cs ≡ length W / 2 = length_pairs move W in
-    let el : length es ≡ length c.args.base.now / 3 = length-links c.args.base.now in
-    let ow : length c.split_at_mut-own.result.0.now ≡ length c.args.base.now = c.split_at_mut-own.ensures.front_len in
-    let lw : r * 3 ≤ length own = omega (arith, c.prepare_in-left.ensures.within, c.prepare_in-left.auto.own) in
-    let f : Fits N (length ps) es cs = c.requires.fits in
-    let G : block_of n2 es2 ≡ thinned_for ps cs (block_of N es) = ap (block_of n2) (links-front own r lw) ∙ c.prepare_in-left.ensures.thinned in
-    let T : Tally = c.args.tally in
-    let m : Tally = c.receive-met.result in
-    let me : m ≡ record { absent = T.absent; work = T.work + length es; whole = T.whole; torn = T.torn } = received T m (length c.args.base.now / 3) (length es) el c.receive-met.ensures in
-    let mw : m.work ≡ T.work + length es = ap (λ (x : Tally). x.work) me in
-    let mh : m.whole ≡ T.whole = ap (λ (x : Tally). x.whole) me in
-    let h : ℕ = (length W / 2 + 1) / 2 in
-    let more : 2 ≤ length cs = omega (arith, f.some) in
-    let small : length es2 ≤ 2 * length cs = part_small ps (length ps) N es cs f n2 es2 G in
-    let fewer : n2 ≤ N = part-fewer ps (length ps) N es cs f n2 es2 G in
-    let back : length c.split_at_mut-own.result.1.now + length c.args.base.now ≡ length c.args.work.now = c.split_at_mut-own.ensures.back_len in
-    let F : List (Move ℕ) = moves_in (take (h * 2 - 0) W) in
-    let R : List (Move ℕ) = moves_in (take (length W / 2 * 2 - h * 2) (drop (h * 2) W)) in
-    let e_f : F ≡ take (half cs) cs = half-first W in
-    let e_r : R ≡ drop (half cs) cs = half-other W (omega arith) in
-    let fl : length F ≡ half cs = first-length cs F e_f more in
-    let ol : length R ≡ length cs - half cs = other_length cs R e_r more in
-    let b2 : length (take (r * 3 - 0) own) ≡ r * 3 = length-take-le (r * 3 - 0) own (omega arith) ∙ omega arith in
-    let rr : length es2 ≡ r = length-links (take (r * 3 - 0) own) ∙ omega arith in
-    let out : List ℕ = c.args.out.now in
-    let lo : length out ≡ length cs * 2 = c.requires.room.entries in
-    let lt : length (take (h * 2 - 0) out) ≡ h * 2 = length-take-le (h * 2 - 0) out (omega arith) ∙ omega arith in
-    let w = slice-work ps (length ps) N es cs f n2 es2 G F R e_f e_r _ refl more in
-    let kw : length c.prepare_in-left.new.spare ≡ length c.split_at_mut-own.result.1.now = c.prepare_in-left.auto.spare in
-    let falls : length (take (h * 2 - 0) W) / 2 < t = omega (arith, c.decreases, length_pairs move (take (h * 2 - 0) W)) in
-    let fits : Fits n2 (length ps) es2 F = part-fits ps (length ps) N es cs f n2 es2 G F (omega arith) (known-first (length ps) cs F e_f f.known) in
-    let room : Room (length (take (r * 3 - 0) own)) (length F) (length (take (h * 2 - 0) out)) (length c.prepare_in-left.new.spare) =
-    room-part c.requires.room (length (take (r * 3 - 0) own)) (length F) (length (take (h * 2 - 0) out)) (length c.prepare_in-left.new.spare) r (omega arith) b2 (omega arith) more (omega arith) (omega arith) in
-    let scratch : Scratch n2 (length ps) c.prepare_in-left.new.marks c.prepare_in-left.new.chosen c.prepare_in-left.new.table =
-    scratch-kept c.requires.scratch n2 (length ps) c.prepare_in-left.new.marks c.prepare_in-left.new.chosen c.prepare_in-left.new.table fewer refl c.prepare_in-left.auto.marks c.prepare_in-left.auto.chosen c.prepare_in-left.auto.table c.prepare_in-left.ensures.blank in
-    let k0 : m.work + block_work (length F) ps (block_of n2 es2) F < 2 ^ 64 = omega (arith, c.requires.count.0) in
-    let k1 : m.whole + length F < 2 ^ 64 = omega (arith, c.requires.count.1) in
+    let cs : List (Move ℕ) = moves_in c.args.moves.now in
+    let es : List Link = links_in c.args.graph.links.now in
+    let n2 : ℕ = c.prepare-nodes.result.0 in
+    let T : List (List ℕ) = take c.prepare-nodes.result.1 c.prepare-nodes.new.own in
+    let F : List (Move ℕ) = moves_in c.split_at.result.0.now in
+    let R : List (Move ℕ) = moves_in c.split_at.result.1.now in
+    let G = left t p.After-prepare-nodes in
+    let h = more t p.After-split_at in
+    let e_f = first t p.After-split_at in
+    let e_r = last t p.After-split_at in
+    let l : length F ≡ length c.split_at.result.0.now = length-map c.split_at.result.0.now move_of in
+    let k = length-map c.args.moves.now move_of in
+    let fl : length F ≡ half cs = first-length cs F e_f h in
+    let w = slice-work ps (length ps) c.args.graph.nodes es cs c.requires.fits n2 (links_in T) G F R e_f e_r _ refl h in
+    let m = ap (λ (x : Tally). x.work) (met t p.After-receive-met) in
+    let d = ap (λ (x : Tally). x.changes) (met t p.After-receive-met) in
+    let fewer : n2 ≤ c.args.graph.nodes = part-fewer ps (length ps) c.args.graph.nodes es cs c.requires.fits n2 (links_in T) G in
+    let back : length c.split_at_mut-own.result.1.now + length c.args.graph.links.now ≡ length c.args.work.now = c.split_at_mut-own.ensures.back_len in
+    let kw : length c.prepare-nodes.new.spare ≡ length c.split_at_mut-own.result.1.now = c.prepare-nodes.auto.spare in
+    let s = small t p.After-prepare-nodes in
+    let falls : length c.split_at.result.0.now < t = omega (arith, c.decreases) in
+    let fits : Fits n2 (length ps) (links_in T) F =
+    part-fits ps (length ps) c.args.graph.nodes es cs c.requires.fits n2 (links_in T) G F (omega arith) (known-first (length ps) cs F e_f c.requires.fits.known) in
+    let room : Room (length T) (length c.split_at.result.0.now) (length c.split_at_mut-first_out.result.0.now) (length c.prepare-nodes.new.spare) =
+    room-part c.requires.room (length T) _ _ _ (length T) (omega arith) refl s (omega arith) (omega arith) (omega (arith, c.split_at_mut-first_out.ensures.front_len, c.split_at.ensures.front_len)) in
+    let scratch = scratch-part (c.prepare-nodes.ensures.scratch c.args.graph.nodes c.requires.scratch) n2 fewer in
+    let k0 : c.receive-met.result.work + block_work (length F) ps (block_of n2 (links_in T)) F < 2 ^ 64 = omega (arith, c.requires.count.0) in
+    let k1 : c.receive-met.result.changes + length c.split_at.result.0.now < 2 ^ 64 = omega (arith, c.requires.count.1) in
     (falls, (fits, (room, (scratch, (k0, k1)))))
 
 pub block-requires : goal.block-requires
 block-requires t c =
-    let W : List ℕ = c.args.moves.now in
-    let cs : List (Move ℕ) = moves_in W in
-    let es : List Link = links_in c.args.base.now in
+    let p = goal.at.block-requires t c in
     let ps : List ℕ = c.args.places.now in
-    let N : ℕ = c.args.nodes in
-    let own : List ℕ = c.prepare_in-left.new.own in
-    let r : ℕ = c.prepare_in-left.result.1 in
-    let n2 : ℕ = c.prepare_in-left.result.0 in
-    let es2 : List Link = links_in (take (r * 3 - 0) own) in
-    let nl : length cs ≡ length W / 2 = length_pairs move W in
-    let el : length es ≡ length c.args.base.now / 3 = length-links c.args.base.now in
-    let ow : length c.split_at_mut-own.result.0.now ≡ length c.args.base.now = c.split_at_mut-own.ensures.front_len in
-    let lw : r * 3 ≤ length own = omega (arith, c.prepare_in-left.ensures.within, c.prepare_in-left.auto.own) in
-    let f : Fits N (length ps) es cs = c.requires.fits in
-    let G : block_of n2 es2 ≡ thinned_for ps cs (block_of N es) = ap (block_of n2) (links-front own r lw) ∙ c.prepare_in-left.ensures.thinned in
-    let T : Tally = c.args.tally in
-    let m : Tally = c.receive-met.result in
-    let me : m ≡ record { absent = T.absent; work = T.work + length es; whole = T.whole; torn = T.torn } = received T m (length c.args.base.now / 3) (length es) el c.receive-met.ensures in
-    let mw : m.work ≡ T.work + length es = ap (λ (x : Tally). x.work) me in
-    let mh : m.whole ≡ T.whole = ap (λ (x : Tally). x.whole) me in
-    let h : ℕ = (length W / 2 + 1) / 2 in
-    let more : 2 ≤ length cs = omega (arith, f.some) in
-    let small : length es2 ≤ 2 * length cs = part_small ps (length ps) N es cs f n2 es2 G in
-    let fewer : n2 ≤ N = part-fewer ps (length ps) N es cs f n2 es2 G in
-    let back : length c.split_at_mut-own.result.1.now + length c.args.base.now ≡ length c.args.work.now = c.split_at_mut-own.ensures.back_len in
-    let F : List (Move ℕ) = moves_in (take (h * 2 - 0) W) in
-    let R : List (Move ℕ) = moves_in (take (length W / 2 * 2 - h * 2) (drop (h * 2) W)) in
-    let e_f : F ≡ take (half cs) cs = half-first W in
-    let e_r : R ≡ drop (half cs) cs = half-other W (omega arith) in
-    let fl : length F ≡ half cs = first-length cs F e_f more in
-    let ol : length R ≡ length cs - half cs = other_length cs R e_r more in
-    let b2 : length (take (r * 3 - 0) own) ≡ r * 3 = length-take-le (r * 3 - 0) own (omega arith) ∙ omega arith in
-    let rr : length es2 ≡ r = length-links (take (r * 3 - 0) own) ∙ omega arith in
-    let out : List ℕ = c.args.out.now in
-    let lo : length out ≡ length cs * 2 = c.requires.room.entries in
-    let lt : length (take (h * 2 - 0) out) ≡ h * 2 = length-take-le (h * 2 - 0) out (omega arith) ∙ omega arith in
     let q : List ℕ = c.block-sum.new.places in
-    let mv : q ≡ moved_by ps F = c.block-sum.ensures.places in
-    let w = slice-work ps (length ps) N es cs f n2 es2 G F R e_f e_r q mv more in
+    let cs : List (Move ℕ) = moves_in c.args.moves.now in
+    let es : List Link = links_in c.args.graph.links.now in
+    let n2 : ℕ = c.prepare-nodes.result.0 in
+    let T : List (List ℕ) = take c.prepare-nodes.result.1 c.prepare-nodes.new.own in
+    let F : List (Move ℕ) = moves_in c.split_at.result.0.now in
+    let R : List (Move ℕ) = moves_in c.split_at.result.1.now in
+    let G = left t p.After-prepare-nodes in
+    let h = more t p.After-split_at in
+    let e_f = first t p.After-split_at in
+    let e_r = last t p.After-split_at in
+    let l : length F ≡ length c.split_at.result.0.now = length-map c.split_at.result.0.now move_of in
+    let l2 : length R ≡ length c.split_at.result.1.now = length-map c.split_at.result.1.now move_of in
+    let k = length-map c.args.moves.now move_of in
+    let fl : length F ≡ half cs = first-length cs F e_f h in
+    let ol : length R ≡ length cs - half cs = other_length cs R e_r h in
+    let w = slice-work ps (length ps) c.args.graph.nodes es cs c.requires.fits n2 (links_in T) G F R e_f e_r q c.block-sum.ensures.places h in
+    let m = ap (λ (x : Tally). x.work) (met t p.After-receive-met) in
+    let d = ap (λ (x : Tally). x.changes) (met t p.After-receive-met) in
+    let fewer : n2 ≤ c.args.graph.nodes = part-fewer ps (length ps) c.args.graph.nodes es cs c.requires.fits n2 (links_in T) G in
+    let back : length c.split_at_mut-own.result.1.now + length c.args.graph.links.now ≡ length c.args.work.now = c.split_at_mut-own.ensures.back_len in
+    let kw : length c.block-sum.new.work ≡ length c.split_at_mut-own.result.1.now = c.block-sum.auto.work ∙ c.prepare-nodes.auto.spare in
     let kq : length q ≡ length ps = c.block-sum.auto.places in
-    let o1 : List ℕ = c.block-sum.new.out in
-    let ko : length o1 ≡ h * 2 = c.block-sum.auto.out ∙ lt in
-    let kw : length c.block-sum.new.work ≡ length c.split_at_mut-own.result.1.now = c.block-sum.auto.work ∙ c.prepare_in-left.auto.spare in
-    let falls : length (take (length W / 2 * 2 - h * 2) (drop (h * 2) W)) / 2 < t = omega (arith, c.decreases, length_pairs move (take (length W / 2 * 2 - h * 2) (drop (h * 2) W))) in
-    let fits : Fits n2 (length q) es2 R = subst (λ x. Fits n2 x es2 R) (sym kq) (part-fits ps (length ps) N es cs f n2 es2 G R (omega arith) (known-other (length ps) cs R e_r f.known)) in
-    let lr : length (take (length W / 2 * 2 - h * 2) (drop (h * 2) (o1 ++ drop (h * 2 - 0) out))) ≡ length W / 2 * 2 - h * 2 = rest-length o1 out h (length W / 2) ko (omega arith) (omega arith) in
-    let room : Room (length (take (r * 3 - 0) own)) (length R) (length (take (length W / 2 * 2 - h * 2) (drop (h * 2) (o1 ++ drop (h * 2 - 0) out)))) (length c.block-sum.new.work) =
-    room-part c.requires.room (length (take (r * 3 - 0) own)) (length R) (length (take (length W / 2 * 2 - h * 2) (drop (h * 2) (o1 ++ drop (h * 2 - 0) out)))) (length c.block-sum.new.work) r (omega arith) b2 (omega arith) more (omega arith) (omega arith) in
-    let scratch : Scratch n2 (length q) c.block-sum.new.marks c.block-sum.new.chosen c.block-sum.new.table =
-    scratch-kept c.requires.scratch n2 (length q) c.block-sum.new.marks c.block-sum.new.chosen c.block-sum.new.table fewer kq (c.block-sum.auto.marks ∙ c.prepare_in-left.auto.marks) (c.block-sum.auto.chosen ∙ c.prepare_in-left.auto.chosen) (c.block-sum.auto.table ∙ c.prepare_in-left.auto.table) c.block-sum.ensures.blank in
-    let s' : Tally = c.block-sum.result in
-    let e1 : s'.work ≡ m.work + block_work (length F) ps (block_of n2 es2) F = c.block-sum.ensures.told.work in
-    let e2 : s'.whole ≤ m.whole + length F = c.block-sum.ensures.told.few in
-    let k0 : s'.work + block_work (length R) q (block_of n2 es2) R < 2 ^ 64 = omega (arith, c.requires.count.0) in
-    let k1 : s'.whole + length R < 2 ^ 64 = omega (arith, c.requires.count.1) in
+    let s = small t p.After-prepare-nodes in
+    let falls : length c.split_at.result.1.now < t = omega (arith, c.decreases) in
+    let fits : Fits n2 (length q) (links_in T) R =
+    subst (λ x. Fits n2 x (links_in T) R) (sym kq) (part-fits ps (length ps) c.args.graph.nodes es cs c.requires.fits n2 (links_in T) G R (omega arith) (known-other (length ps) cs R e_r c.requires.fits.known)) in
+    let room : Room (length T) (length c.split_at.result.1.now) (length c.split_at_mut-first_out.result.1.now) (length c.block-sum.new.work) =
+    room-part c.requires.room (length T) _ _ _ (length T) (omega arith) refl s (omega arith) (omega arith)
+    (omega (arith, c.split_at_mut-first_out.ensures.back_len, c.split_at.ensures.back_len, c.requires.room.entries)) in
+    let scratch : Scratch n2 (length q) c.block-sum.new.tables =
+    subst (λ x. Scratch n2 x c.block-sum.new.tables) (sym kq) (scratch-part (c.block-sum.ensures.scratch c.args.graph.nodes (c.prepare-nodes.ensures.scratch c.args.graph.nodes c.requires.scratch)) n2 fewer) in
+    let k0 : c.block-sum.result.work + block_work (length R) q (block_of n2 (links_in T)) R < 2 ^ 64 = omega (arith, c.requires.count.0, c.block-sum.ensures.told.work) in
+    let k1 : c.block-sum.result.changes + length c.split_at.result.1.now < 2 ^ 64 = omega (arith, c.requires.count.1, c.block-sum.ensures.told.counts) in
     (falls, (fits, (room, (scratch, (k0, k1)))))
 
-pub returns : goal.returns
-returns t c =
-    let W : List ℕ = c.args.moves.now in
-    let cs : List (Move ℕ) = moves_in W in
-    let es : List Link = links_in c.args.base.now in
+pub returns-clause-scratch : goal.returns-clause-scratch
+returns-clause-scratch t c = λ n s.
+    let k : length c.block-sum.new.places ≡ length c.args.places.now = c.block-sum.auto.places in
+    subst (λ x. Scratch n x c.block.new.tables) k
+    (c.block.ensures.scratch n (subst (λ x. Scratch n x c.block-sum.new.tables) (sym k) (c.block-sum.ensures.scratch n (c.prepare-nodes.ensures.scratch n s))))
+
+pub returns-clause-places : goal.returns-clause-places
+returns-clause-places t c =
+    let p = goal.at.returns-clause-places t c in
+    c.block.ensures.places
+    ∙ slice-moved c.args.places.now (length c.args.places.now) c.args.graph.nodes (links_in c.args.graph.links.now) (moves_in c.args.moves.now) c.requires.fits _ _
+    (left t p.After-prepare-nodes) _ _ (first t p.After-split_at) (last t p.After-split_at) c.block-sum.new.places c.block-sum.ensures.places
+
+pub returns-clause-entries : goal.returns-clause-entries
+returns-clause-entries t c =
+    let p = goal.at.returns-clause-entries t c in
+    map-append exchange_of c.block-sum.new.out c.block.new.out
+    ∙ slice-entries c.args.places.now (length c.args.places.now) c.args.graph.nodes (links_in c.args.graph.links.now) (moves_in c.args.moves.now) c.requires.fits _ _
+    (left t p.After-prepare-nodes) _ _ (first t p.After-split_at) (last t p.After-split_at) c.block-sum.new.places c.block-sum.ensures.places
+    (entries_in c.block-sum.new.out) (entries_in c.block.new.out) c.block-sum.ensures.entries c.block.ensures.entries
+
+pub returns-clause-told : goal.returns-clause-told
+returns-clause-told t c =
+    let p = goal.at.returns-clause-told t c in
     let ps : List ℕ = c.args.places.now in
-    let N : ℕ = c.args.nodes in
-    let own : List ℕ = c.prepare_in-left.new.own in
-    let r : ℕ = c.prepare_in-left.result.1 in
-    let n2 : ℕ = c.prepare_in-left.result.0 in
-    let es2 : List Link = links_in (take (r * 3 - 0) own) in
-    let nl : length cs ≡ length W / 2 = length_pairs move W in
-    let el : length es ≡ length c.args.base.now / 3 = length-links c.args.base.now in
-    let ow : length c.split_at_mut-own.result.0.now ≡ length c.args.base.now = c.split_at_mut-own.ensures.front_len in
-    let lw : r * 3 ≤ length own = omega (arith, c.prepare_in-left.ensures.within, c.prepare_in-left.auto.own) in
-    let f : Fits N (length ps) es cs = c.requires.fits in
-    let G : block_of n2 es2 ≡ thinned_for ps cs (block_of N es) = ap (block_of n2) (links-front own r lw) ∙ c.prepare_in-left.ensures.thinned in
-    let T : Tally = c.args.tally in
-    let m : Tally = c.receive-met.result in
-    let me : m ≡ record { absent = T.absent; work = T.work + length es; whole = T.whole; torn = T.torn } = received T m (length c.args.base.now / 3) (length es) el c.receive-met.ensures in
-    let mw : m.work ≡ T.work + length es = ap (λ (x : Tally). x.work) me in
-    let mh : m.whole ≡ T.whole = ap (λ (x : Tally). x.whole) me in
-    let h : ℕ = (length W / 2 + 1) / 2 in
-    let more : 2 ≤ length cs = omega (arith, f.some) in
-    let small : length es2 ≤ 2 * length cs = part_small ps (length ps) N es cs f n2 es2 G in
-    let fewer : n2 ≤ N = part-fewer ps (length ps) N es cs f n2 es2 G in
-    let back : length c.split_at_mut-own.result.1.now + length c.args.base.now ≡ length c.args.work.now = c.split_at_mut-own.ensures.back_len in
-    let F : List (Move ℕ) = moves_in (take (h * 2 - 0) W) in
-    let R : List (Move ℕ) = moves_in (take (length W / 2 * 2 - h * 2) (drop (h * 2) W)) in
-    let e_f : F ≡ take (half cs) cs = half-first W in
-    let e_r : R ≡ drop (half cs) cs = half-other W (omega arith) in
-    let fl : length F ≡ half cs = first-length cs F e_f more in
-    let ol : length R ≡ length cs - half cs = other_length cs R e_r more in
-    let b2 : length (take (r * 3 - 0) own) ≡ r * 3 = length-take-le (r * 3 - 0) own (omega arith) ∙ omega arith in
-    let rr : length es2 ≡ r = length-links (take (r * 3 - 0) own) ∙ omega arith in
-    let out : List ℕ = c.args.out.now in
-    let lo : length out ≡ length cs * 2 = c.requires.room.entries in
-    let lt : length (take (h * 2 - 0) out) ≡ h * 2 = length-take-le (h * 2 - 0) out (omega arith) ∙ omega arith in
-    let q : List ℕ = c.block-sum.new.places in
-    let mv : q ≡ moved_by ps F = c.block-sum.ensures.places in
-    let w = slice-work ps (length ps) N es cs f n2 es2 G F R e_f e_r q mv more in
-    let o1 : List ℕ = c.block-sum.new.out in
-    let o2 : List ℕ = c.block.new.out in
-    let ko : length o1 ≡ h * 2 = c.block-sum.auto.out ∙ lt in
-    record {
-      blank = c.block.ensures.blank;
-      places = c.block.ensures.places ∙ slice-moved ps (length ps) N es cs f n2 es2 G F R e_f e_r q mv;
-      entries = whole-entries h (length W / 2) o1 out o2 ko (omega arith) (omega arith)
-          ∙ slice-entries ps (length ps) N es cs f n2 es2 G F R e_f e_r q mv (entries_in o1) (entries_in o2) c.block-sum.ensures.entries c.block.ensures.entries;
-      told = told-up T m c.block.result _ _ ps (length ps) N es cs f n2 es2 G me (sym w)
-          (told-halves m c.block-sum.result c.block.result _ _ ps q es2 cs F R e_f e_r mv c.block-sum.ensures.told c.block.ensures.told);
-    }
-
-pub slice_bounds-block-end-3 : goal.slice_bounds-block-end-3
-slice_bounds-block-end-3 t c =
-    let nl : length (moves_in c.args.moves.now) ≡ length c.args.moves.now / 2 = length_pairs move c.args.moves.now in
-    let lo : length c.args.out.now ≡ length (moves_in c.args.moves.now) * 2 = c.requires.room.entries in
-    omega (arith, c.requires.fits.some)
-
-pub slice_bounds-block-end-6 : goal.slice_bounds-block-end-6
-slice_bounds-block-end-6 t c =
-    let W : List ℕ = c.args.moves.now in
-    let h : ℕ = (length W / 2 + 1) / 2 in
-    let out : List ℕ = c.args.out.now in
-    let o1 : List ℕ = c.block-sum.new.out in
-    let nl : length (moves_in W) ≡ length W / 2 = length_pairs move W in
-    let lo : length out ≡ length (moves_in W) * 2 = c.requires.room.entries in
-    let some : 0 < length (moves_in W) = c.requires.fits.some in
-    let lt : length (take (h * 2 - 0) out) ≡ h * 2 = length-take-le (h * 2 - 0) out (omega arith) ∙ omega arith in
-    let ko : length o1 ≡ h * 2 = c.block-sum.auto.out ∙ lt in
-    let ld : length (drop (h * 2 - 0) out) ≡ length out - (h * 2 - 0) = length-drop (h * 2 - 0) out in
-    let la : length (o1 ++ drop (h * 2 - 0) out) ≡ length o1 + length (drop (h * 2 - 0) out) = length-append o1 (drop (h * 2 - 0) out) in
-    omega arith
+    let cs : List (Move ℕ) = moves_in c.args.moves.now in
+    let es : List Link = links_in c.args.graph.links.now in
+    let n2 : ℕ = c.prepare-nodes.result.0 in
+    let es2 : List Link = links_in (take c.prepare-nodes.result.1 c.prepare-nodes.new.own) in
+    let F : List (Move ℕ) = moves_in c.split_at.result.0.now in
+    let R : List (Move ℕ) = moves_in c.split_at.result.1.now in
+    let G = left t p.After-prepare-nodes in
+    let e_f = first t p.After-split_at in
+    let e_r = last t p.After-split_at in
+    let w = slice-work ps (length ps) c.args.graph.nodes es cs c.requires.fits n2 es2 G F R e_f e_r c.block-sum.new.places c.block-sum.ensures.places (more t p.After-split_at) in
+    told-up c.args.tally c.receive-met.result c.block.result _ _ ps (length ps) c.args.graph.nodes es cs c.requires.fits n2 es2 G (met t p.After-receive-met) (sym w)
+    (told-halves c.receive-met.result c.block-sum.result c.block.result _ _ ps c.block-sum.new.places es2 cs F R e_f e_r c.block-sum.ensures.places c.block-sum.ensures.told c.block.ensures.told)

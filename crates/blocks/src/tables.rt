@@ -1,0 +1,18 @@
+//! What a block is given: its graph, and the tables that it works in.
+
+/// A block's graph: how many nodes it has, and its links.
+#[derive(Clone, Copy)]
+pub struct Graph<'a> {
+    pub nodes: u32,
+    pub links: &'a [[u32; 3]],
+}
+
+/// Marks of the links that a block's changes name and of those that a reduction keeps, a word for each link number and one
+/// more; and parents and new numbers of nodes, a word for each node and one more.
+#[derive(Drop)]
+pub struct Tables<'a> {
+    pub marks: &'a mut [u32],
+    pub chosen: &'a mut [u32],
+    pub parent: &'a mut [u32],
+    pub name: &'a mut [u32],
+}
