@@ -1,14 +1,14 @@
 -- Turning one bit turns one flag.
-use Rattle.std.proofs.Common.{◌≡◌, ℕ, zero, suc, ◌+◌, ◌*◌, ◌/◌, ◌%◌, ◌^◌, ◌<◌, ◌≤◌, Bool, true, false, not, eqb, ltb, List, length, get_or, set, replicate, None, sym, refl, ap, ◌∙◌, subst, inl, inr, arith}
+use Rattle.std.proofs.Common.{◌≡◌, ℕ, zero, suc, ◌+◌, ◌*◌, ◌/◌, ◌%◌, ◌^◌, ◌<◌, Bool, true, false, not, eqb, List, length, get_or, set, None, sym, refl, ap, ◌∙◌, subst, inl, inr, arith}
 use lib.Bits.{bit_xor}
 use Rattle.std.specs.Int.{bit_at}
 use Rattle.std.proofs.lemmas.Nat.Bits.{bit_at_xor, bit_at-pow_same, bit_at-pow_other, bit_at-zero, bit_at-lt}
 use Rattle.std.proofs.lemmas.List.FromFn.{length-map-range_with_len, get_or-map-range_with_len}
-use Rattle.std.proofs.lemmas.List.{length-set, get_or-set_same, get_or-set_other, ext_get_or, length-replicate, get_or-replicate}
-use Rattle.std.proofs.lemmas.Bool.{cases_eq, ltb-false}
+use Rattle.std.proofs.lemmas.List.{length-set, get_or-set_same, get_or-set_other, ext_get_or}
+use Rattle.std.proofs.lemmas.Bool.{cases_eq}
 use Rattle.std.proofs.lemmas.Bool.Decides.{nat_tests}
 use Rattle.fabrics.specs.Blank.{blanked, Begins}
-use Rattle.fabrics.proofs.Blanks.{blank-at}
+use Rattle.fabrics.proofs.Blanks.{begins, blank-at}
 use Rattle.fabric_tests.specs.Bits.{bit, flag, flags, turned, words_for, bits_fault}
 
 flip : (d : ℕ) → d < 2 → eqb ((d + 1) % 2) 1 ≡ not (eqb d 1)
@@ -73,19 +73,11 @@ module _ (ws : List ℕ) (i : ℕ) (room : i < 32 * length ws) where
 
 -- Blank words.
 module _ (m : ℕ) (ws : List ℕ) (none : bits_fault m (length ws) ≡ None) where
-  room : words_for m ≤ length ws
-  room = grind (arith, nat_tests)
-
   zero_flag : (i : ℕ) → i < m → flag (blanked (words_for m) ws) i ≡ false
   zero_flag i h = ap (λ w. bit w (i % 32)) (blank-at (words_for m) ws (i / 32) (omega arith)) ∙ ap (λ x. eqb x 1) (bit_at-zero (i % 32))
 
   pub begins-blank : (after : List ℕ) → after ≡ blanked (words_for m) ws → Begins (bits_fault m (length ws)) m (words_for m) ws after (flags m after)
   begins-blank after e =
       let zs = blanked (words_for m) ws in
-      let blank : flags m zs ≡ replicate m false =
-      ext_get_or false (flags m zs) (replicate m false)
-      (length_flags m zs ∙ sym (length-replicate m false))
-      (λ i k.
-      let h : i < m = omega (arith, length_flags m zs) in
-      flag_at m zs i h ∙ zero_flag i h ∙ sym (get_or-replicate m i false false h)) in
-      subst (λ o. Begins o m (words_for m) ws after (flags m after)) (sym none) (e, ap (flags m) e ∙ blank)
+      subst (λ a. Begins (bits_fault m (length ws)) m (words_for m) ws a (flags m a)) (sym e)
+      (begins _ m (words_for m) ws (flags m zs) none (length_flags m zs) (λ i h. flag_at m zs i h ∙ zero_flag i h))

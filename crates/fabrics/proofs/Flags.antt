@@ -1,8 +1,8 @@
 -- The flags of a link map's bytes.
-use Rattle.std.proofs.Common.{◌≡◌, ℕ, ◌<◌, ◌≤◌, Bool, true, false, arith, eqb, List, map, length, get_or, take, set, ap, ◌∙◌}
+use Rattle.std.proofs.Common.{◌≡◌, ℕ, ◌<◌, ◌≤◌, Bool, true, false, arith, eqb, List, length, get_or, set, ap, ◌∙◌}
 use mir.Val.{bool_byte}
 use lib.Seq.{take-set-lt}
-use Rattle.std.proofs.lemmas.List.{length-map, length-take-le, get_or-map, get_or-take, map-set}
+use Rattle.std.proofs.lemmas.List.{map-set}
 use Rattle.std.proofs.lemmas.Grind.{common_steps}
 use Rattle.fabrics.specs.Map.{flags}
 

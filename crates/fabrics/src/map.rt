@@ -13,6 +13,7 @@ use network::MAX_LINKS;
 /// A fabric of m links in the first m bytes of lent memory: 1 for a link that carries and 0 for one that does not.
 #[derive(Drop)]
 pub struct LinkMap<'a> {
+    // The size stands beside the bytes: longer memory is lent whole, and keeps its rest.
     m: u32,
     bytes: &'a mut [u8],
     // A refused map is no Err: it holds its memory until it is let go, and as a fabric of no links takes any call.

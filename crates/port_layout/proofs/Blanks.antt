@@ -1,10 +1,9 @@
 -- Blank memory is a port table in which no link carries.
-use Rattle.std.proofs.Common.{◌≡◌, ℕ, zero, suc, ◌+◌, ◌*◌, ◌<◌, ◌≤◌, false, List, [], ◌∷◌, length, replicate, Some, None, Option, sym, refl, ap, ◌∙◌, subst, arith}
+use Rattle.std.proofs.Common.{◌≡◌, ℕ, zero, suc, ◌+◌, ◌*◌, ◌<◌, ◌≤◌, false, List, [], ◌∷◌, length, Some, None, Option, sym, refl, ap, ◌∙◌, subst, arith}
 use Rattle.std.proofs.lemmas.Bool.{both_ways}
-use Rattle.std.proofs.lemmas.List.{get_or-replicate, length-replicate, ext_get_or}
 use Rattle.std.proofs.lemmas.Bool.Decides.{nat_tests}
 use Rattle.fabrics.specs.Blank.{blanked, Begins}
-use Rattle.fabrics.proofs.Blanks.{blank-at, length-blanked}
+use Rattle.fabrics.proofs.Blanks.{blank-at, length-blanked, begins}
 use Rattle.network.specs.Ends.{no_node, end_fault, or_else, first_end_fault}
 use Rattle.network.specs.declared.types.Node.{Node}
 use Rattle.network.specs.declared.types.Ends.{Ends}
@@ -85,14 +84,6 @@ module _ (n : ℕ) (es : List Ends) (bs : List ℕ) (g : Granted n es (length bs
     paired = λ i h. clean-first i h ∙ sym (let j = js i h in ap (has (2 * i + 2)) (clean-chain (second_head es i) (omega (arith, j.second-is, j.second-in))));
   }
 
-  blank-flags : flags n es (blanked (table_size n (length es)) bs) ≡ replicate (length es) false
-  blank-flags =
-      let zs = blanked (table_size n (length es)) bs in
-      ext_get_or false (flags n es zs) (replicate (length es) false)
-      (length_flags n es zs ∙ sym (length-replicate (length es) false))
-      (λ i l. let h : i < length es = omega (arith, length_flags n es zs) in
-      flag_at n es zs i h ∙ clean-first i h ∙ sym (get_or-replicate (length es) i false false h))
-
   pub wired : table_fault n es (length bs) ≡ None → Wired (table_fault n es (length bs)) n es n es
   wired none = subst (λ o. Wired o n es n es) (sym none) (refl, refl)
 
@@ -102,7 +93,10 @@ module _ (n : ℕ) (es : List Ends) (bs : List ℕ) (g : Granted n es (length bs
   pub begins-blank : table_fault n es (length bs) ≡ None → (after : List ℕ) → after ≡ blanked (table_size n (length es)) bs →
       Begins (table_fault n es (length bs)) (length es) (table_size n (length es)) bs after (flags n es after)
   begins-blank none after e =
-      subst (λ o. Begins o (length es) (table_size n (length es)) bs after (flags n es after)) (sym none) (e, ap (flags n es) e ∙ blank-flags)
+      let k = table_size n (length es) in
+      let zs = blanked k bs in
+      subst (λ a. Begins (table_fault n es (length bs)) (length es) k bs a (flags n es a)) (sym e)
+      (begins _ (length es) k bs (flags n es zs) none (length_flags n es zs) (λ i h. flag_at n es zs i h ∙ clean-first i h))
 
 -- Any memory is a port table of no node and no link.
 pub empty-table : (bs : List ℕ) → Table 0 [] bs
