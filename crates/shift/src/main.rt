@@ -7,7 +7,7 @@ use fabrics::{Fabric, LinkMap};
 use faults::Fault;
 use installation::{Answer, Batch, Call, Line, Seat, State, resume};
 use network::{Change, Ends, LinkState};
-use plan_lines::{Refusal, text_refusal};
+use plan_lines::Refusal;
 use planner::{Book, Drawn, Tables};
 use plant_text::{Plant, Room, read_plant};
 use ports::PortTable;
@@ -27,7 +27,7 @@ fn main(rt: HostRuntime) -> anyhow::Result<()> {
         match read_plant(room, input.as_slice()) {
             Ok(Plant::Costs(plant)) => on_fabric(&rt, plant, ports)?,
             Ok(Plant::Classes(plant)) => on_fabric(&rt, plant, ports)?,
-            Err(fault) => return refuse(&rt, text_refusal(fault)),
+            Err(fault) => return refuse(&rt, fault.into()),
         }
     }
     Ok(())
