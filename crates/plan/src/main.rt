@@ -2,9 +2,7 @@
 //! 1 for a refusal.
 #![tactic(auto)]
 
-use plan_lines::{
-    EntryLine, Refusal, TreeLine, WorkLine, draw_refusal, open_refusal, text_refusal,
-};
+use plan_lines::{EntryLine, Refusal, TreeLine, WorkLine, draw_refusal};
 use planner::{Book, Tables};
 use plant_text::{Plant, Room, read_plant};
 use std::io::Read;
@@ -18,10 +16,10 @@ fn main(rt: HostRuntime) -> anyhow::Result<ExitCode> {
     let mut input = Vec::new(rt.alloc());
     rt.stdin().take(ENOUGH).read_to_end(&mut input)?;
     let room = Room::reserve(rt.alloc())?;
-    match read_plant(room, input.as_slice()) {
+    match read_plant(room, &input) {
         Ok(Plant::Costs(plant)) => tell(&rt, plant),
         Ok(Plant::Classes(plant)) => tell(&rt, plant),
-        Err(fault) => refuse(&rt, text_refusal(fault)),
+        Err(fault) => refuse(&rt, fault.into()),
     }
 }
 
@@ -30,12 +28,11 @@ fn tell<W: Weight>(rt: &HostRuntime, plant: plant_text::Tables<W>) -> anyhow::Re
     let plant_text::Tables {
         n,
         ends,
-        links,
+        mut links,
         link_lines,
         changes,
         change_lines,
     } = plant;
-    let mut links = links;
     let nodes = n as usize;
     let size = nodes
         .saturating_add(links.len())
@@ -46,25 +43,15 @@ fn tell<W: Weight>(rt: &HostRuntime, plant: plant_text::Tables<W>) -> anyhow::Re
     let mut work = vec![in rt.alloc(); 0u32; size.saturating_mul(64)]?;
     let tables = Tables {
         n,
-        ends: ends.as_slice(),
-        links: links.as_mut_slice(),
-        tree: tree.as_mut_slice(),
+        ends: &ends,
+        links: &mut links,
+        tree: &mut tree,
     };
-    let mut book = Book::open(tables, work.as_mut_slice());
-    if let Some(fault) = book.refusal() {
-        return refuse(rt, open_refusal(fault, link_lines.as_slice()));
-    }
-    match book.draw(
-        changes.as_slice(),
-        start.as_mut_slice(),
-        entries.as_mut_slice(),
-        work.as_mut_slice(),
-    ) {
-        Ok(drawn) => print_plan(rt, start.as_slice(), entries.as_slice(), drawn.work),
-        Err(fault) => refuse(
-            rt,
-            draw_refusal(fault, change_lines.as_slice(), link_lines.as_slice()),
-        ),
+    let mut book = Book::open(tables, &mut work);
+    // A book whose open is refused refuses the draw with the same report.
+    match book.draw(&changes, &mut start, &mut entries, &mut work) {
+        Ok(drawn) => print_plan(rt, &start, &entries, drawn.work),
+        Err(fault) => refuse(rt, draw_refusal(fault, &change_lines, &link_lines)),
     }
 }
 
@@ -76,13 +63,11 @@ fn print_plan(
     work: u64,
 ) -> anyhow::Result<ExitCode> {
     println!(rt; "{}", TreeLine(start))?;
-    let mut change = 0u32;
-    for entry in entries {
-        change = change.saturating_add(1);
+    for (change, &(leaving, coming)) in (1u32..).zip(entries) {
         let line = EntryLine {
             change,
-            leaving: entry.0,
-            coming: entry.1,
+            leaving,
+            coming,
         };
         println!(rt; "{line}")?;
     }

@@ -1,5 +1,5 @@
 -- What the numbers of a line tell.
-use Rattle.std.proofs.Common.{◌≡◌, ℕ, ◌+◌, ◌<◌, ◌≤◌, List, [], ◌∷◌, ◌++◌, length, get_or, drop, Some, None, Ok, Err, Option, sym, refl, ap, ◌∙◌}
+use Rattle.std.proofs.Common.{◌≡◌, ℕ, ◌+◌, ◌<◌, ◌≤◌, List, [], ◌∷◌, ◌++◌, length, get_or, drop, Some, None, Ok, Err, Option, sym, refl, ap, ◌∙◌, arith}
 use Rattle.std.proofs.lemmas.List.{append-nil, append_assoc, at_drop_more, at_drop_all}
 use Rattle.std.specs.Option.{option_map, ok_or}
 use Rattle.faults.specs.declared.TextFault.{TextFault}
@@ -10,7 +10,6 @@ use Rattle.plant_lines.specs.Line.{item_from, shape, line_at, numbers, before}
 use Rattle.text_words.specs.Letter.{letter_word}
 use Rattle.text_words.specs.Number.{numeral}
 use Rattle.text_words.specs.Split.{parts}
-use Rattle.plant_lines.proofs.Telling.{some-ok, none-err}
 
 mapped-more : (xs : List ℕ) (n : ℕ) (o : Option (List ℕ)) → option_map (λ ns. xs ++ ns) (before (Some n) o) ≡ option_map (λ ns. (xs ++ n ∷ []) ++ ns) o
 mapped-more xs n None = refl
@@ -25,10 +24,15 @@ module _ (all : List (List ℕ)) (xs : List ℕ) (i : ℕ) (so : numbers all ≡
     word-next = so ∙ ap (option_map (λ ns. xs ++ ns)) (at_drop_more numbers all i w turn.0 ∙ ap (λ v. before (numeral v) (numbers (drop (i + 1) all))) (sym turn.1))
 
     pub words-err : (line : ℕ) (e : TextFault) → Err e ≡ ok_or (numeral w) (Malformed line) → Err e ≡ ok_or (numbers all) (Malformed line)
-    words-err line e h = let p = none-err (numeral w) (Malformed line) e h in rw (p.1, word-next, p.0) refl
+    words-err line e h =
+        let none : numeral w ≡ None = grind arith in
+        let same : e ≡ Malformed line = grind arith in
+        rw (same, word-next, none) refl
 
     pub words_more : (line n : ℕ) (ys : List ℕ) (j : ℕ) → Ok n ≡ ok_or (numeral w) (Malformed line) → ys ≡ xs ++ n ∷ [] → j ≡ i + 1 → numbers all ≡ option_map (λ ns. ys ++ ns) (numbers (drop j all))
-    words_more line n ys j h e k = rw (e, k, word-next, some-ok (numeral w) (Malformed line) n h) (mapped-more xs n (numbers (drop (i + 1) all)))
+    words_more line n ys j h e k =
+        let some : numeral w ≡ Some n = grind arith in
+        rw (e, k, word-next, some) (mapped-more xs n (numbers (drop (i + 1) all)))
 
   pub words-all : (line : ℕ) → length all ≤ i → Ok xs ≡ ok_or (numbers all) (Malformed line)
   unfolding numbers

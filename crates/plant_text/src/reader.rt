@@ -60,41 +60,30 @@ fn read_rest(room: Room, kind: Kind, n: u32, text: &[u8]) -> Result<Plant, TextF
     }
     let Room {
         mut numbers,
-        costs,
-        classes,
+        mut costs,
+        mut classes,
     } = room;
     match kind {
-        Kind::Cost => Ok(Plant::Costs(read_body(costs, &mut numbers, n, text)?)),
-        Kind::Class => Ok(Plant::Classes(read_body(classes, &mut numbers, n, text)?)),
+        Kind::Cost => {
+            costs.n = n;
+            Ok(Plant::Costs(read_body(costs, &mut numbers, text)?))
+        }
+        Kind::Class => {
+            classes.n = n;
+            Ok(Plant::Classes(read_body(classes, &mut numbers, text)?))
+        }
     }
 }
 
-/// The lines after the first.
+/// The lines after the first, added to the tables.
 fn read_body<W: Weight>(
     mut tables: Tables<W>,
     numbers: &mut Vec<u32>,
-    n: u32,
     text: &[u8],
 ) -> Result<Tables<W>, TextFault>
-    requires reserved { Reserved tables }
     requires room { 4096 ≤ vec_capacity numbers.old }
     requires short { length text.now < 4096 }
-    ensures { result_map_both seen (λ e. e) result ≡ body W.Weight.made (blank n) 2 (parts 10 text.now) }
-{
-    tables.n = n;
-    read_rows(&mut tables, numbers, text)?;
-    Ok(tables)
-}
-
-/// The lines after the first, each with its number.
-fn read_rows<W: Weight>(
-    tables: &mut Tables<W>,
-    numbers: &mut Vec<u32>,
-    text: &[u8],
-) -> Result<(), TextFault>
-    requires room { 4096 ≤ vec_capacity numbers.old }
-    requires short { length text.now < 4096 }
-    ensures { result_and result (Ok (seen tables.new)) ≡ body W.Weight.made (seen tables.old) 2 (parts 10 text.now) }
+    ensures { result_map_both seen (λ e. e) result ≡ body W.Weight.made (seen tables) 2 (parts 10 text.now) }
 {
     let mut rest = text;
     // Counted by hand: a `for` over a slice's split gets no proof in a generic function.
@@ -106,7 +95,7 @@ fn read_rows<W: Weight>(
         line += 1;
     }
     if rest.is_empty() {
-        Ok(())
+        Ok(tables)
     } else {
         Err(TextFault::Malformed(line))
     }

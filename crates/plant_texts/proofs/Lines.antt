@@ -1,10 +1,9 @@
 -- A line that was read, written out again.
-use Rattle.std.proofs.Common.{◌≡◌, ℕ, cond, eqb, List, [], ◌∷◌, ◌++◌, Some, None, Ok, codes, Option, sym, refl, ap, ◌∙◌, ⊎_elim}
+use Rattle.std.proofs.Common.{◌≡◌, ℕ, cond, eqb, List, [], ◌∷◌, ◌++◌, Some, None, Ok, codes, Option, sym, refl, ap, ◌∙◌, ⊎_elim, arith}
 use Rattle.std.proofs.lemmas.List.{append-nil}
 use Rattle.std.proofs.lemmas.Bool.{cases_Bool, eqb-true}
 use Rattle.std.proofs.lemmas.Option.{same_Some}
 use Rattle.std.specs.Option.{option_map}
-use Rattle.faults.specs.declared.TextFault.TheVariants.{Malformed}
 use Rattle.network.specs.declared.types.Change.TheVariants as change
 use Rattle.plant_lines.specs.declared.item.Item.{Item}
 use Rattle.plant_lines.specs.declared.item.Item.TheVariants as item
@@ -16,7 +15,6 @@ use Rattle.text_words.specs.Letter.{letter_of, letter_word}
 use Rattle.text_words.specs.Number.{numeral}
 use Rattle.plan_lines.specs.Output.{spaced}
 use Rattle.text_words.specs.Split.{parts}
-use Rattle.plant_lines.proofs.Telling.{some-ok}
 use Rattle.plant_texts.specs.Laws.{joined_by}
 use Rattle.plant_texts.proofs.Writing.{parts_join, read-write}
 
@@ -119,4 +117,6 @@ module _ {W : Type 0} (made : List ℕ → Option W) (spelled : W → List ℕ) 
       item-line s.0 s.1 x s.4 ∙ ap (λ bs. code s.0 ∷ bs) (numbers_after ws s.1 s.3) ∙ ap (λ v. v ++ after ws) (sym (letter-word w s.0 s.2)) ∙ sym (joined-after w ws)
 
   pub line-back : (i : ℕ) (l : List ℕ) (x : Item W) → line_at made i l ≡ Ok x → line_for x ≡ l
-  line-back i l x h = shape-line (parts 32 l) x (some-ok (shape made (parts 32 l)) (Malformed i) x (sym h)) ∙ parts_join 32 l
+  line-back i l x h =
+      let told : shape made (parts 32 l) ≡ Some x = grind arith in
+      shape-line (parts 32 l) x told ∙ parts_join 32 l

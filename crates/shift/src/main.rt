@@ -6,7 +6,7 @@ use anyhow::anyhow;
 use fabrics::{Fabric, LinkMap};
 use faults::Fault;
 use installation::{Answer, Batch, Call, Line, Memory, Seat, State, resume};
-use plan_lines::{Refusal, text_refusal};
+use plan_lines::Refusal;
 use planner::{Book, Tables};
 use plant_text::{Plant, Room, read_plant};
 use ports::PortTable;
@@ -25,7 +25,7 @@ fn main(rt: HostRuntime) -> anyhow::Result<()> {
     match read_plant(room, input.as_slice()) {
         Ok(Plant::Costs(plant)) => on_both(&rt, &plant),
         Ok(Plant::Classes(plant)) => on_both(&rt, &plant),
-        Err(fault) => refuse(&rt, text_refusal(fault)),
+        Err(fault) => refuse(&rt, fault.into()),
     }
 }
 

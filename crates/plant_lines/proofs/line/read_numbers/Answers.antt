@@ -4,7 +4,7 @@ use Rattle.std.proofs.lemmas.Iterator.Splits.{YieldsList-from_slice_split}
 use Rattle.std.proofs.lemmas.List.{length_push}
 use Rattle.text_words.specs.Split.{parts}
 use Rattle.plant_lines.proofs.Lines.{words-err, words_more, words-all}
-use Rattle.plant_lines.proofs.Telling.{and-err}
+use Rattle.std.proofs.lemmas.Result.{err_from_is_err_and}
 use Rattle.plant_lines.proofs.line.read_numbers.Goals as goal
 use Rattle.plant_lines.proofs.line.read_numbers.Goals.{In-Some}
 
@@ -15,7 +15,8 @@ turn c =
 
 pub returns-in_err-number-clause-told : goal.returns-in_err-number-clause-told
 returns-in_err-number-clause-told c =
-    and-err _ _ _ _ c.from_residual.ensures.1 (words-err _ _ _ c.loop-word.invariant.read _ (turn (goal.at.returns-in_err-number-clause-told c).In-Some) _ _ c.in_err-number.ensures)
+    let p = err_from_is_err_and c.from_residual.result c.from_residual.ensures.1 in
+    rw (p.1, p.2) (words-err _ _ _ c.loop-word.invariant.read _ (turn (goal.at.returns-in_err-number-clause-told c).In-Some) _ _ c.in_err-number.ensures)
 
 pub loop-word-preserved : goal.loop-word-preserved
 loop-word-preserved c =

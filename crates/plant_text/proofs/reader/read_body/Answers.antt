@@ -1,20 +1,22 @@
 use Rattle.std.proofs.Common.{◌∙◌, arith, true-eqb, false-eqb}
 use Rattle.plant_tables.specs.File.{seen}
 use Rattle.plant_text.proofs.Bodies.{body-line, body-place, body_more, body_end, body_open}
-use Rattle.plant_lines.proofs.Telling.{and-err}
-use Rattle.plant_text.proofs.reader.read_rows.Goals as goal
+use Rattle.std.proofs.lemmas.Result.{err_from_is_err_and}
+use Rattle.plant_text.proofs.reader.read_body.Goals as goal
 
 pub read_line-requires : goal.read_line-requires
 read_line-requires g c = omega (arith, c.in-Some.ensures.sizes)
 
 pub returns-in_err-item : goal.returns-in_err-item
 returns-in_err-item g c =
-    and-err _ _ _ _ c.from_residual.ensures.1
+    let p = err_from_is_err_and c.from_residual.result c.from_residual.ensures.1 in
+    rw (p.1, p.2)
     (body-line g.W.Weight.made (seen c.loop-row.tables) c.loop-row.line _ _ _ c.in-Some.ensures _ c.in_err-item.ensures.told ∙ c.loop-row.invariant.left)
 
 pub returns-in_err-place : goal.returns-in_err-place
 returns-in_err-place g c =
-    and-err _ _ _ _ c.from_residual-in_err-place.ensures.1
+    let p = err_from_is_err_and c.from_residual-in_err-place.result c.from_residual-in_err-place.ensures.1 in
+    rw (p.1, p.2)
     (body-place g.W.Weight.made (seen c.loop-row.tables) c.loop-row.line _ _ _ c.in-Some.ensures _ _ c.in_ok-item.ensures.told c.in_err-place.ensures ∙ c.loop-row.invariant.left)
 
 pub loop-row-preserved : goal.loop-row-preserved
