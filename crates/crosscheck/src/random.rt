@@ -5,7 +5,7 @@ use crate::simple::records::{Action, Change, Link, Weight, apply, index};
 use crate::simple::tree::joined;
 use std::alloc::{AllocError, Global};
 
-/// A linear congruential generator.
+/// A linear congruential generator. `bench` has the same few lines: a crate for them would be longer.
 #[derive(Drop)]
 pub struct Random(u64);
 

@@ -131,21 +131,22 @@ fn draws_as(
 
 /// Faulty changes are found before one that parts the network, wherever they stand.
 fn bad_changes(group: &mut Group) -> Result<(), Failure> {
-    let outside = |change| Err(Refusal::LinkOutside(change));
-    draws_as(group, &[flip(0)], outside(1))?;
-    draws_as(group, &[set(6, 1)], outside(1))?;
-    draws_as(group, &[flip(5), remove(6)], outside(2))?;
-    let absent = |change| Err(Refusal::RemoveAbsent(change));
-    draws_as(group, &[remove(5)], absent(1))?;
+    draws_as(group, &[flip(0)], Err(Refusal::LinkOutside(1)))?;
+    draws_as(group, &[set(6, 1)], Err(Refusal::LinkOutside(1)))?;
+    let second = [flip(5), remove(6)];
+    draws_as(group, &second, Err(Refusal::LinkOutside(2)))?;
+    draws_as(group, &[remove(5)], Err(Refusal::RemoveAbsent(1)))?;
     draws_as(group, &[flip(5), remove(5)], Ok(()))?;
-    draws_as(group, &[remove(4), remove(4), flip(9)], absent(2))?;
-    let removes = [remove(1), remove(2), remove(3), flip(6)];
-    draws_as(group, &removes, outside(4))?;
-    let parted = |change| Err(Refusal::Parted(change));
-    draws_as(group, &[remove(1), remove(2), set(1, 1)], parted(2))?;
+    let twice = [remove(4), remove(4), flip(9)];
+    draws_as(group, &twice, Err(Refusal::RemoveAbsent(2)))?;
+    let last = [remove(1), remove(2), remove(3), flip(6)];
+    draws_as(group, &last, Err(Refusal::LinkOutside(4)))?;
+    let removes = [remove(1), remove(2), set(1, 1)];
+    draws_as(group, &removes, Err(Refusal::Parted(2)))?;
     let flips = [remove(1), flip(5), flip(2), set(1, 1)];
-    draws_as(group, &flips, parted(3))?;
-    draws_as(group, &[remove(1), flip(5), flip(4), set(1, 1)], Ok(()))
+    draws_as(group, &flips, Err(Refusal::Parted(3)))?;
+    let joined = [remove(1), flip(5), flip(4), set(1, 1)];
+    draws_as(group, &joined, Ok(()))
 }
 
 /// Classes go up to 7.
