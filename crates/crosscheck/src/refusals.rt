@@ -2,7 +2,7 @@
 use crate::cases::{absent, case, flip, four_switches, link, remove, set};
 use crate::failure::Failure;
 use crate::group::Group;
-use crate::simple::forecast::{Lent, Refusal};
+use crate::simple::forecast::{Answer, Lent, Refusal};
 use crate::simple::records::Change;
 use crate::tally::{Finding, Tally};
 use faults::{Fault, Layer};
@@ -117,11 +117,7 @@ fn unjoined(group: &mut Group) -> Result<(), Failure> {
 }
 
 /// Draws changes of the four-switch plant with link 5 absent.
-fn draws_as(
-    group: &mut Group,
-    changes: &[Change],
-    answer: Result<(), Refusal>,
-) -> Result<(), Failure> {
+fn draws_as(group: &mut Group, changes: &[Change], answer: Answer<()>) -> Result<(), Failure> {
     let mut plant = case(group.heap, 4, &four_switches(), changes)?;
     if let Some(fifth) = plant.links.get_mut(4) {
         fifth.present = false;
