@@ -22,62 +22,34 @@ pub fn every_refusal(heap: Global) -> Result<Tally, Failure> {
 /// The four-switch plant with a good change and a bad one, and tables one item shorter or longer than needed. The bad
 /// change is found only where no table is too short. A link table may not be longer either.
 fn short_tables(group: &mut Group) -> Result<(), Failure> {
-    let exact = Lent::exact(4, 5, 2);
     let bad = Refusal::LinkOutside(2);
+    // The lengths of the link table, the tree table, the work area of open, the start list, the entry table and the work
+    // area of draw.
     let tables = [
-        (exact, bad),
-        (Lent { links: 4, ..exact }, Refusal::OpenTables),
-        (Lent { links: 6, ..exact }, Refusal::OpenTables),
-        (Lent { tree: 2, ..exact }, Refusal::OpenTables),
-        (Lent { tree: 4, ..exact }, bad),
-        (
-            Lent {
-                open_work: 575,
-                ..exact
-            },
-            Refusal::OpenTables,
-        ),
-        (
-            Lent {
-                open_work: 577,
-                ..exact
-            },
-            bad,
-        ),
-        (Lent { start: 2, ..exact }, Refusal::DrawTables),
-        (Lent { start: 4, ..exact }, bad),
-        (
-            Lent {
-                entries: 1,
-                ..exact
-            },
-            Refusal::DrawTables,
-        ),
-        (
-            Lent {
-                entries: 3,
-                ..exact
-            },
-            bad,
-        ),
-        (
-            Lent {
-                draw_work: 703,
-                ..exact
-            },
-            Refusal::DrawTables,
-        ),
-        (
-            Lent {
-                draw_work: 705,
-                ..exact
-            },
-            bad,
-        ),
+        ([5, 3, 576, 3, 2, 704], bad),
+        ([4, 3, 576, 3, 2, 704], Refusal::OpenTables),
+        ([6, 3, 576, 3, 2, 704], Refusal::OpenTables),
+        ([5, 2, 576, 3, 2, 704], Refusal::OpenTables),
+        ([5, 4, 576, 3, 2, 704], bad),
+        ([5, 3, 575, 3, 2, 704], Refusal::OpenTables),
+        ([5, 3, 577, 3, 2, 704], bad),
+        ([5, 3, 576, 2, 2, 704], Refusal::DrawTables),
+        ([5, 3, 576, 4, 2, 704], bad),
+        ([5, 3, 576, 3, 1, 704], Refusal::DrawTables),
+        ([5, 3, 576, 3, 3, 704], bad),
+        ([5, 3, 576, 3, 2, 703], Refusal::DrawTables),
+        ([5, 3, 576, 3, 2, 705], bad),
     ];
-    for (lent, refusal) in tables {
+    for ([links, tree, open_work, start, entries, draw_work], refusal) in tables {
         let mut plant = case(group.heap, 4, &four_switches(), &[set(4, 3), flip(6)])?;
-        plant.lent = lent;
+        plant.lent = Lent {
+            links,
+            tree,
+            open_work,
+            start,
+            entries,
+            draw_work,
+        };
         group.answer_is::<Cost>(&plant, Err(refusal))?;
     }
     Ok(())

@@ -28,6 +28,18 @@ impl Lent {
             draw_work: size.saturating_add(k).saturating_mul(64),
         }
     }
+
+    /// The same with each table longer that may be.
+    pub fn longer(self, more: usize) -> Lent {
+        Lent {
+            links: self.links,
+            tree: self.tree.saturating_add(more),
+            open_work: self.open_work.saturating_add(more),
+            start: self.start.saturating_add(more),
+            entries: self.entries.saturating_add(more),
+            draw_work: self.draw_work.saturating_add(more),
+        }
+    }
 }
 
 /// A network of n nodes, changes of it, and the lengths of the tables.
