@@ -111,15 +111,14 @@ impl Sample {
     /// A sample of this size, in which the path keeps all nodes joined.
     fn of(heap: Global, size: Size) -> Result<Sample, AllocError> {
         let mut random = Random(u64::from(size.n));
-        let mut ends = Vec::new(heap);
-        let mut links = Vec::new(heap);
-        for i in 0..size.m {
-            ends.push(size.ends(&mut random, i))?;
-            links.push(LinkState {
-                weight: Cost(random.below(1_000_000)),
-                present: true,
-            })?;
-        }
+        let (ends, links) = (0..size.m)
+            .map(|i| {
+                let ends = size.ends(&mut random, i);
+                let weight = Cost(random.below(1_000_000));
+                let present = true;
+                (ends, LinkState { weight, present })
+            })
+            .unzip(heap)?;
         let batch = (0..size.k).map(|_| size.change(&mut random)).collect(heap)?;
         Ok(Sample { ends, links, batch })
     }

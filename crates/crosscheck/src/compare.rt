@@ -4,7 +4,7 @@ use crate::group::Group;
 use crate::loan::{BLANK, Drawing, Kind, Loan};
 use crate::play::play;
 use crate::simple::forecast;
-use crate::simple::forecast::{Case, Plan, Refusal, answered};
+use crate::simple::forecast::{Answer, Case, Plan, Refusal, answered};
 use crate::simple::records::Change;
 use crate::simple::tree::Forest;
 use crate::tally::Finding;
@@ -48,7 +48,7 @@ fn fronted<T: PartialEq + Copy>(table: &[T], front: &[T], blank: T) -> bool {
 }
 
 /// What the tree table begins with after an open: the least tree, or nothing if the open is refused.
-fn tree_front(heap: Global, opened: Result<Forest, Refusal>) -> Result<Vec<u32>, AllocError> {
+fn tree_front(heap: Global, opened: Answer<Forest>) -> Result<Vec<u32>, AllocError> {
     match opened {
         Ok(tree) => tree.numbers(heap),
         Err(_) => Ok(Vec::new(heap)),
@@ -58,7 +58,7 @@ fn tree_front(heap: Global, opened: Result<Forest, Refusal>) -> Result<Vec<u32>,
 impl Group {
     /// Opens and draws a case, plays the plan if there is one, and counts each disagreement. Gives the plan or the refusal
     /// that there should be.
-    pub fn compare<W: Kind>(&mut self, case: &Case) -> Result<Result<Plan, Refusal>, Failure> {
+    pub fn compare<W: Kind>(&mut self, case: &Case) -> Result<Answer<Plan>, Failure> {
         self.tally.count_case();
         let tree = self.compare_open::<W>(case)?;
         let mut loan = Loan::<W>::of(self.heap, case)?;
@@ -77,7 +77,7 @@ impl Group {
         &mut self,
         first: &Case,
         further: &[Change],
-    ) -> Result<Result<Plan, Refusal>, Failure> {
+    ) -> Result<Answer<Plan>, Failure> {
         self.tally.count_case();
         let heap = self.heap;
         let links = forecast::links_after(heap, first)?;
@@ -117,7 +117,7 @@ impl Group {
         &mut self,
         draw: Draw<'_, W>,
         tree: &[u32],
-    ) -> Result<Result<Plan, Refusal>, Failure> {
+    ) -> Result<Answer<Plan>, Failure> {
         let forecast = answered(forecast::draw(self.heap, draw.case))?;
         match &forecast {
             Ok(plan) => self.granted(draw, plan)?,

@@ -2,7 +2,7 @@
 use crate::failure::Failure;
 use crate::group::Group;
 use crate::loan::Kind;
-use crate::simple::forecast::{Case, Refusal};
+use crate::simple::forecast::{Answer, Case};
 use crate::tally::Finding;
 
 /// A plan that was worked out by hand.
@@ -32,11 +32,7 @@ impl Group {
     }
 
     /// A case that is granted, or refused with this refusal.
-    pub fn answer_is<W: Kind>(
-        &mut self,
-        case: &Case,
-        wanted: Result<(), Refusal>,
-    ) -> Result<(), Failure> {
+    pub fn answer_is<W: Kind>(&mut self, case: &Case, wanted: Answer<()>) -> Result<(), Failure> {
         let answer = self.compare::<W>(case)?.map(|_| ());
         self.tally.expect(answer == wanted, Finding::Known);
         Ok(())

@@ -30,6 +30,7 @@ pub fn play(
     let m = ends.len();
     let mut bytes = vec![in group.heap; BLANK; m.saturating_add(SPARE)]?;
     let map = LinkMap::blank(plan.m, bytes.as_mut_slice());
+    // A tour holds the plan and the trees for a shorter time, so they are lent again.
     Tour::play(&*plan, map, &*trees, &mut group.tally);
     group
         .tally
@@ -79,41 +80,61 @@ impl From<Kept<Between>> for Broken {
     }
 }
 
-/// Forward to the next moment, or backward to the one before.
-#[derive(Clone, Copy)]
-enum Way {
-    Forward,
-    Backward,
-}
-
-impl Way {
+/// A way through a plan.
+trait Way {
     /// The moment that the way leads to.
-    fn after(self, t: usize) -> usize {
-        match self {
-            Way::Forward => t.saturating_add(1),
-            Way::Backward => t.saturating_sub(1),
-        }
-    }
+    fn after(t: usize) -> usize;
 
     /// The last moment of a plan on this way.
-    fn last(self, plan: &Plan) -> u32 {
-        match self {
-            Way::Forward => plan.k,
-            Way::Backward => 0,
-        }
-    }
+    fn last(plan: &Plan) -> u32;
 
     /// Sets out on a change.
     fn set_out<F: Fabric>(
-        self,
+        player: Steady,
+        plan: &Plan,
+        fabric: &mut F,
+    ) -> Result<Between, Kept<Steady>>;
+}
+
+/// Forward to the next moment.
+struct Forward;
+
+impl Way for Forward {
+    fn after(t: usize) -> usize {
+        t.saturating_add(1)
+    }
+
+    fn last(plan: &Plan) -> u32 {
+        plan.k
+    }
+
+    fn set_out<F: Fabric>(
         player: Steady,
         plan: &Plan,
         fabric: &mut F,
     ) -> Result<Between, Kept<Steady>> {
-        match self {
-            Way::Forward => player.forward(plan, fabric),
-            Way::Backward => player.backward(plan, fabric),
-        }
+        player.forward(plan, fabric)
+    }
+}
+
+/// Backward to the moment before.
+struct Backward;
+
+impl Way for Backward {
+    fn after(t: usize) -> usize {
+        t.saturating_sub(1)
+    }
+
+    fn last(_plan: &Plan) -> u32 {
+        0
+    }
+
+    fn set_out<F: Fabric>(
+        player: Steady,
+        plan: &Plan,
+        fabric: &mut F,
+    ) -> Result<Between, Kept<Steady>> {
+        player.backward(plan, fabric)
     }
 }
 
@@ -162,17 +183,16 @@ impl<'a, 's, 'e, F: Fabric + Drop> Tour<'a, 's, 'e, F> {
         let k = self.plan.k as usize;
         let player = lay(self.plan, &mut self.fabric)?;
         self.compare_carrying(0, 0);
-        let player = self.go(player, Way::Forward, 0..k, 3)?;
-        let player = self.go(player, Way::Backward, (1..=k).rev(), 5)?;
+        let player = self.go::<Forward, _>(player, 0..k, 3)?;
+        let player = self.go::<Backward, _>(player, (1..=k).rev(), 5)?;
         Ok(player.finish())
     }
 
     /// Makes or takes back the change at each of these moments, and finds that there is none after them. Now and then a
     /// change is begun and cancelled first.
-    fn go<I: Iterator<Item = usize> + Drop>(
+    fn go<W: Way, I: Iterator<Item = usize> + Drop>(
         &mut self,
         player: Steady,
-        way: Way,
         moments: I,
         cancel_at: usize,
     ) -> Result<Steady, Broken>
@@ -182,37 +202,39 @@ impl<'a, 's, 'e, F: Fabric + Drop> Tour<'a, 's, 'e, F> {
         let mut player = player;
         for t in moments {
             if t % CANCEL_EACH == cancel_at {
-                player = self.begin_and_cancel(player, way, t)?;
+                self.tally.count_cancel();
+                player = self.change::<W, _>(player, t, t, |between, fabric| {
+                    between.cancel(fabric)
+                })?;
             }
-            player = self.turn(player, way, t)?;
+            player = self.change::<W, _>(player, t, W::after(t), |between, fabric| {
+                between.join(fabric)
+            })?;
         }
-        self.no_way_on(player, way)
+        self.no_way_on::<W>(player)
     }
 
-    /// Makes one change from moment t, or takes one back.
-    fn turn(&mut self, player: Steady, way: Way, t: usize) -> Result<Steady, Broken> {
-        let to = way.after(t);
-        let between = way.set_out(player, self.plan, &mut self.fabric)?;
-        self.compare_carrying(t, to);
-        let steady = between.join(&mut self.fabric)?;
+    /// Sets out on a change from moment t, and ends it so that the player is steady at the moment `to`.
+    fn change<W: Way, E: FnOnce(Between, &mut F) -> Result<Steady, Kept<Between>>>(
+        &mut self,
+        player: Steady,
+        t: usize,
+        to: usize,
+        ending: E,
+    ) -> Result<Steady, Broken>
+        requires { E.IsAlwaysCallable ending }
+    {
+        let between = W::set_out(player, self.plan, &mut self.fabric)?;
+        self.compare_carrying(t, W::after(t));
+        let steady = ending(between, &mut self.fabric)?;
         self.compare_carrying(to, to);
         Ok(steady)
     }
 
-    /// Sets out on a change from moment t, and comes back.
-    fn begin_and_cancel(&mut self, player: Steady, way: Way, t: usize) -> Result<Steady, Broken> {
-        self.tally.count_cancel();
-        let between = way.set_out(player, self.plan, &mut self.fabric)?;
-        self.compare_carrying(t, way.after(t));
-        let steady = between.cancel(&mut self.fabric)?;
-        self.compare_carrying(t, t);
-        Ok(steady)
-    }
-
     /// Past either end of a plan there is no entry.
-    fn no_way_on(&mut self, player: Steady, way: Way) -> Result<Steady, Broken> {
-        let moment = way.last(self.plan);
-        match way.set_out(player, self.plan, &mut self.fabric) {
+    fn no_way_on<W: Way>(&mut self, player: Steady) -> Result<Steady, Broken> {
+        let moment = W::last(self.plan);
+        match W::set_out(player, self.plan, &mut self.fabric) {
             Ok(between) => {
                 let _ = between.abandon();
                 Err(Broken(PlayerFault::NoEntry(moment)))

@@ -5,7 +5,7 @@ use crate::simple::records::{Action, Change, Link, Weight, apply, index};
 use crate::simple::tree::joined;
 use std::alloc::{AllocError, Global};
 
-/// A linear congruential generator.
+/// A linear congruential generator. `bench` has the same few lines: a crate for them would be longer.
 #[derive(Drop)]
 pub struct Random(u64);
 
@@ -262,15 +262,7 @@ impl Recipe {
     /// Tables as long as needed or a little longer, and now and then one that is too short.
     fn lent(&self, random: &mut Random, k: usize) -> Lent {
         let exact = Lent::exact(self.n as usize, self.m as usize, k);
-        let more = random.below(4) as usize;
-        let ample = Lent {
-            links: exact.links,
-            tree: exact.tree.saturating_add(more),
-            open_work: exact.open_work.saturating_add(more),
-            start: exact.start.saturating_add(more),
-            entries: exact.entries.saturating_add(more),
-            draw_work: exact.draw_work.saturating_add(more),
-        };
+        let ample = exact.longer(random.below(4) as usize);
         match random.below(160) {
             0 => Lent {
                 links: exact.links.saturating_sub(1),

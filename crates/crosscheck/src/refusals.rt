@@ -2,7 +2,7 @@
 use crate::cases::{absent, case, flip, four_switches, link, remove, set};
 use crate::failure::Failure;
 use crate::group::Group;
-use crate::simple::forecast::{Lent, Refusal};
+use crate::simple::forecast::{Answer, Lent, Refusal};
 use crate::simple::records::Change;
 use crate::tally::{Finding, Tally};
 use faults::{Fault, Layer};
@@ -22,62 +22,34 @@ pub fn every_refusal(heap: Global) -> Result<Tally, Failure> {
 /// The four-switch plant with a good change and a bad one, and tables one item shorter or longer than needed. The bad
 /// change is found only where no table is too short. A link table may not be longer either.
 fn short_tables(group: &mut Group) -> Result<(), Failure> {
-    let exact = Lent::exact(4, 5, 2);
     let bad = Refusal::LinkOutside(2);
+    // The lengths of the link table, the tree table, the work area of open, the start list, the entry table and the work
+    // area of draw.
     let tables = [
-        (exact, bad),
-        (Lent { links: 4, ..exact }, Refusal::OpenTables),
-        (Lent { links: 6, ..exact }, Refusal::OpenTables),
-        (Lent { tree: 2, ..exact }, Refusal::OpenTables),
-        (Lent { tree: 4, ..exact }, bad),
-        (
-            Lent {
-                open_work: 575,
-                ..exact
-            },
-            Refusal::OpenTables,
-        ),
-        (
-            Lent {
-                open_work: 577,
-                ..exact
-            },
-            bad,
-        ),
-        (Lent { start: 2, ..exact }, Refusal::DrawTables),
-        (Lent { start: 4, ..exact }, bad),
-        (
-            Lent {
-                entries: 1,
-                ..exact
-            },
-            Refusal::DrawTables,
-        ),
-        (
-            Lent {
-                entries: 3,
-                ..exact
-            },
-            bad,
-        ),
-        (
-            Lent {
-                draw_work: 703,
-                ..exact
-            },
-            Refusal::DrawTables,
-        ),
-        (
-            Lent {
-                draw_work: 705,
-                ..exact
-            },
-            bad,
-        ),
+        ([5, 3, 576, 3, 2, 704], bad),
+        ([4, 3, 576, 3, 2, 704], Refusal::OpenTables),
+        ([6, 3, 576, 3, 2, 704], Refusal::OpenTables),
+        ([5, 2, 576, 3, 2, 704], Refusal::OpenTables),
+        ([5, 4, 576, 3, 2, 704], bad),
+        ([5, 3, 575, 3, 2, 704], Refusal::OpenTables),
+        ([5, 3, 577, 3, 2, 704], bad),
+        ([5, 3, 576, 2, 2, 704], Refusal::DrawTables),
+        ([5, 3, 576, 4, 2, 704], bad),
+        ([5, 3, 576, 3, 1, 704], Refusal::DrawTables),
+        ([5, 3, 576, 3, 3, 704], bad),
+        ([5, 3, 576, 3, 2, 703], Refusal::DrawTables),
+        ([5, 3, 576, 3, 2, 705], bad),
     ];
-    for (lent, refusal) in tables {
+    for ([links, tree, open_work, start, entries, draw_work], refusal) in tables {
         let mut plant = case(group.heap, 4, &four_switches(), &[set(4, 3), flip(6)])?;
-        plant.lent = lent;
+        plant.lent = Lent {
+            links,
+            tree,
+            open_work,
+            start,
+            entries,
+            draw_work,
+        };
         group.answer_is::<Cost>(&plant, Err(refusal))?;
     }
     Ok(())
@@ -117,11 +89,7 @@ fn unjoined(group: &mut Group) -> Result<(), Failure> {
 }
 
 /// Draws changes of the four-switch plant with link 5 absent.
-fn draws_as(
-    group: &mut Group,
-    changes: &[Change],
-    answer: Result<(), Refusal>,
-) -> Result<(), Failure> {
+fn draws_as(group: &mut Group, changes: &[Change], answer: Answer<()>) -> Result<(), Failure> {
     let mut plant = case(group.heap, 4, &four_switches(), changes)?;
     if let Some(fifth) = plant.links.get_mut(4) {
         fifth.present = false;
@@ -131,21 +99,22 @@ fn draws_as(
 
 /// Faulty changes are found before one that parts the network, wherever they stand.
 fn bad_changes(group: &mut Group) -> Result<(), Failure> {
-    let outside = |change| Err(Refusal::LinkOutside(change));
-    draws_as(group, &[flip(0)], outside(1))?;
-    draws_as(group, &[set(6, 1)], outside(1))?;
-    draws_as(group, &[flip(5), remove(6)], outside(2))?;
-    let absent = |change| Err(Refusal::RemoveAbsent(change));
-    draws_as(group, &[remove(5)], absent(1))?;
+    draws_as(group, &[flip(0)], Err(Refusal::LinkOutside(1)))?;
+    draws_as(group, &[set(6, 1)], Err(Refusal::LinkOutside(1)))?;
+    let second = [flip(5), remove(6)];
+    draws_as(group, &second, Err(Refusal::LinkOutside(2)))?;
+    draws_as(group, &[remove(5)], Err(Refusal::RemoveAbsent(1)))?;
     draws_as(group, &[flip(5), remove(5)], Ok(()))?;
-    draws_as(group, &[remove(4), remove(4), flip(9)], absent(2))?;
-    let removes = [remove(1), remove(2), remove(3), flip(6)];
-    draws_as(group, &removes, outside(4))?;
-    let parted = |change| Err(Refusal::Parted(change));
-    draws_as(group, &[remove(1), remove(2), set(1, 1)], parted(2))?;
+    let twice = [remove(4), remove(4), flip(9)];
+    draws_as(group, &twice, Err(Refusal::RemoveAbsent(2)))?;
+    let last = [remove(1), remove(2), remove(3), flip(6)];
+    draws_as(group, &last, Err(Refusal::LinkOutside(4)))?;
+    let removes = [remove(1), remove(2), set(1, 1)];
+    draws_as(group, &removes, Err(Refusal::Parted(2)))?;
     let flips = [remove(1), flip(5), flip(2), set(1, 1)];
-    draws_as(group, &flips, parted(3))?;
-    draws_as(group, &[remove(1), flip(5), flip(4), set(1, 1)], Ok(()))
+    draws_as(group, &flips, Err(Refusal::Parted(3)))?;
+    let joined = [remove(1), flip(5), flip(4), set(1, 1)];
+    draws_as(group, &joined, Ok(()))
 }
 
 /// Classes go up to 7.

@@ -28,6 +28,18 @@ impl Lent {
             draw_work: size.saturating_add(k).saturating_mul(64),
         }
     }
+
+    /// The same with each table longer that may be.
+    pub fn longer(self, more: usize) -> Lent {
+        Lent {
+            links: self.links,
+            tree: self.tree.saturating_add(more),
+            open_work: self.open_work.saturating_add(more),
+            start: self.start.saturating_add(more),
+            entries: self.entries.saturating_add(more),
+            draw_work: self.draw_work.saturating_add(more),
+        }
+    }
 }
 
 /// A network of n nodes, changes of it, and the lengths of the tables.
@@ -104,8 +116,11 @@ impl From<Refusal> for Stop {
     }
 }
 
+/// The answer to a case: what is granted, or a refusal.
+pub type Answer<T> = Result<T, Refusal>;
+
 /// Tells a refusal apart from memory that ran out.
-pub fn answered<T>(forecast: Result<T, Stop>) -> Result<Result<T, Refusal>, AllocError> {
+pub fn answered<T>(forecast: Result<T, Stop>) -> Result<Answer<T>, AllocError> {
     match forecast {
         Ok(value) => Ok(Ok(value)),
         Err(Stop::Refused(refusal)) => Ok(Err(refusal)),
@@ -114,12 +129,12 @@ pub fn answered<T>(forecast: Result<T, Stop>) -> Result<Result<T, Refusal>, Allo
 }
 
 /// Refuses if it is so.
-fn refuse_if(so: bool, refusal: Refusal) -> Result<(), Refusal> {
+fn refuse_if(so: bool, refusal: Refusal) -> Answer<()> {
     if so { Err(refusal) } else { Ok(()) }
 }
 
 /// Refuses ends that are no nodes, and ends that are one node.
-fn check_ends(n: u32, links: &[Link]) -> Result<(), Refusal> {
+fn check_ends(n: u32, links: &[Link]) -> Answer<()> {
     for (number, link) in (1u32..).zip(links) {
         let outside = link.a == 0 || link.a > n || link.b == 0 || link.b > n;
         refuse_if(outside, Refusal::EndOutside(number))?;
@@ -150,8 +165,8 @@ fn check_changes(case: &Case) -> Result<(), Stop> {
         let link = links
             .get(index(change.link))
             .ok_or(Refusal::LinkOutside(place))?;
-        let removes = matches!(change.action, Action::Remove);
-        refuse_if(removes && !link.present, Refusal::RemoveAbsent(place))?;
+        let absent = change.action == Action::Remove && !link.present;
+        refuse_if(absent, Refusal::RemoveAbsent(place))?;
         apply(links.as_mut_slice(), *change);
     }
     Ok(())

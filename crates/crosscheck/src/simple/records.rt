@@ -17,7 +17,7 @@ pub struct Link {
 }
 
 /// What a change does to its link.
-#[derive(Clone, Copy)]
+#[derive(Clone, Copy, PartialEq)]
 pub enum Action {
     Set(Weight),
     Remove,

@@ -70,12 +70,11 @@ impl Block<'_> {
     /// ones first.
     fn merging(&self, graph: &Graph) -> Result<Labels, AllocError> {
         let mut order = self.others(graph)?;
-        for edge in graph.edges.iter().filter(|edge| self.names(edge.number)) {
-            order.push(Ranked {
-                rank: Rank::Named,
-                edge: *edge,
-            })?;
-        }
+        let named = graph.edges.iter().filter(|edge| self.names(edge.number));
+        order.extend(named.map(|edge| Ranked {
+            rank: Rank::Named,
+            edge: *edge,
+        }))?;
         let forest = least_forest(self.heap, graph.nodes, order)?;
         let mut labels = Labels::apart(self.heap, graph.nodes)?;
         for edge in graph.edges.iter() {
