@@ -31,7 +31,7 @@ use Rattle.installation.specs.Perform.{Lent, Desk, fresh, plan_at, start_in, ent
 use Rattle.installation.specs.Hands.{Hand, Booked, Holds, Makes, Leads, is_free, may_draw, place_of, to_player, first_answer, open_answer}
 use Rattle.installation.specs.Turns.{Plays}
 use Rattle.installation.proofs.Tables.{part-long, table-new, table-put}
-use Rattle.installation.proofs.Turned.{nobody-steady, nobody-between}
+use Rattle.installation.proofs.Turned.{nobody-waits}
 
 -- What an answer tells of the fault.
 pub granted-none : {X E : Type 0} (o : Option E) (x y : X) → Ok x ≡ unless o y → (o ≡ None) × (x ≡ y)
@@ -143,24 +143,11 @@ may-slot b changes slots o s at e =
 pub to-player : (c : Call) → (c ≡ call.Open → ⊥) → ((b : Batch) → c ≡ call.Draw b → ⊥) → to_player c ≡ true
 to-player call.Open o d = absurd (o refl)
 to-player (call.Draw b) o d = absurd (d b refl)
-to-player (call.Lay s) o d = refl
-to-player call.Forward o d = refl
-to-player call.Backward o d = refl
-to-player call.Join o d = refl
-to-player call.Cancel o d = refl
-to-player call.Abandon o d = refl
-to-player call.Finish o d = refl
+to-player _ o d = refl
 
 plans-stay : {W : Type 0} (c : Call) → to_player c ≡ true → (a : Answer) (ds : List (DrawnPlan W)) (ps : List (Option (DrawnPlan W))) → ps ≡ plans_after c a ds ps
-plans-stay call.Open t a ds ps = refl
 plans-stay (call.Draw b) t a ds ps = absurd (both_ways true (sym t) refl)
-plans-stay (call.Lay s) t a ds ps = refl
-plans-stay call.Forward t a ds ps = refl
-plans-stay call.Backward t a ds ps = refl
-plans-stay call.Join t a ds ps = refl
-plans-stay call.Cancel t a ds ps = refl
-plans-stay call.Abandon t a ds ps = refl
-plans-stay call.Finish t a ds ps = refl
+plans-stay _ t a ds ps = refl
 
 -- A draw keeps off the slot of the player's plan.
 differ : (at slot : ℕ) → (false || not (eqb slot at)) ≡ true → at ≡ slot → ⊥
@@ -172,27 +159,13 @@ differ at slot e q =
 
 -- A player's call needs the player's plan, where there is a player.
 own-place : (c : Call) (seat : Seat) (at : ℕ) → is_free seat ≡ false → place_of c seat at ≡ at
-own-place call.Open seat at e = refl
-own-place (call.Draw b) seat at e = refl
 own-place (call.Lay s) seat at e = ap (λ z. cond z s at) e
-own-place call.Forward seat at e = refl
-own-place call.Backward seat at e = refl
-own-place call.Join seat at e = refl
-own-place call.Cancel seat at e = refl
-own-place call.Abandon seat at e = refl
-own-place call.Finish seat at e = refl
+own-place _ seat at e = refl
 
 -- A call that is not made moves no player's slot.
 pub slot-stays : (c : Call) (at : ℕ) → slot_after c NotMade at ≡ at
-slot-stays call.Open at = refl
-slot-stays (call.Draw b) at = refl
 slot-stays (call.Lay s) at = refl
-slot-stays call.Forward at = refl
-slot-stays call.Backward at = refl
-slot-stays call.Join at = refl
-slot-stays call.Cancel at = refl
-slot-stays call.Abandon at = refl
-slot-stays call.Finish at = refl
+slot-stays _ at = refl
 
 module _ {W F : Type 0} (side : W → W → Side) (carrying : F → List Bool) where
   -- A call that is not made.
@@ -499,12 +472,7 @@ module _ {W F : Type 0} (side : W → W → Side) (carrying : F → List Bool) w
     no-plan (call.Lay s) Free t h e =
         subst (λ (p : Player W). Made side carrying (by_player p (lay_it (plan_at x.plans s)) None None) x.installation NotMade x.installation) (sym h)
         (subst (λ (o : Option (DrawnPlan W)). Made side carrying (lay_it o) x.installation NotMade x.installation) (sym e) (refl, refl))
-    no-plan call.Forward Free t h e = nobody-steady side carrying x.installation _ h
-    no-plan call.Backward Free t h e = nobody-steady side carrying x.installation _ h
-    no-plan call.Join Free t h e = nobody-between side carrying x.installation _ h
-    no-plan call.Cancel Free t h e = nobody-between side carrying x.installation _ h
-    no-plan call.Abandon Free t h e = nobody-between side carrying x.installation _ h
-    no-plan call.Finish Free t h e = nobody-steady side carrying x.installation _ h
+    no-plan _ Free t h e = nobody-waits side carrying x.installation _ _ h
 
   pub play-waits : (c : Call) (h : Hand W F) → to_player c ≡ true → None ≡ sheet_of h (place_of c h.seat h.at) → Makes side carrying h c NotMade h
   play-waits c h t e l x k =
@@ -592,18 +560,12 @@ module _ {W F : Type 0} (side : W → W → Side) (carrying : F → List Bool) w
 
   pub new-waits : (c : Call) → (c ≡ call.Open → ⊥) → (l : Lent W) (f : F) → Turn side carrying l (fresh l f) c NotMade (fresh l f)
   new-waits call.Open o l f = absurd (o refl)
-  new-waits (call.Draw b) o l f = record { made = (refl, refl); plans = refl; at = refl }
   new-waits (call.Lay s) o l f = record {
     made = subst (λ (o : Option (DrawnPlan W)). Made side carrying (lay_it o) (new f) NotMade (new f)) (sym (none-there l.slots s)) (refl, refl);
     plans = refl;
     at = refl;
   }
-  new-waits call.Forward o l f = record { made = (refl, refl); plans = refl; at = refl }
-  new-waits call.Backward o l f = record { made = (refl, refl); plans = refl; at = refl }
-  new-waits call.Join o l f = record { made = (refl, refl); plans = refl; at = refl }
-  new-waits call.Cancel o l f = record { made = (refl, refl); plans = refl; at = refl }
-  new-waits call.Abandon o l f = record { made = (refl, refl); plans = refl; at = refl }
-  new-waits call.Finish o l f = record { made = (refl, refl); plans = refl; at = refl }
+  new-waits _ o l f = record { made = (refl, refl); plans = refl; at = refl }
 
   pub new-plans : (n : ℕ) → replicate n None ≡ map (option_map (counted {W = W})) (replicate n None)
   new-plans zero = refl

@@ -51,24 +51,15 @@ module _ {W F : Type 0} (side : W → W → Side) (carrying : F → List Bool) w
     made-between e x = subst (λ (p : Player W). Made side carrying (by_player p None None (Some q)) i a j) (sym e) x
 
   -- Any other is not.
-  module _ (i : Installation W F) (o : Option (Request W)) where
-    pub steady-seated : {p : Steady} {t : ℕ} {d : DrawnPlan W} → i.player ≡ steady p t d → Made side carrying (by_player i.player o None None) i NotMade i
-    steady-seated e = subst (λ (p : Player W). Made side carrying (by_player p o None None) i NotMade i) (sym e) (refl, refl)
+  module _ (i : Installation W F) (o q : Option (Request W)) where
+    pub nobody-waits : i.player ≡ nobody → Made side carrying (by_player i.player None o q) i NotMade i
+    nobody-waits e = subst (λ (p : Player W). Made side carrying (by_player p None o q) i NotMade i) (sym e) (refl, refl)
 
-    pub between-seated : {b : Between} {t u : ℕ} {d : DrawnPlan W} → i.player ≡ between b t u d → Made side carrying (by_player i.player o None None) i NotMade i
-    between-seated e = subst (λ (p : Player W). Made side carrying (by_player p o None None) i NotMade i) (sym e) (refl, refl)
+    steady-waits : {p : Steady} {t : ℕ} {d : DrawnPlan W} → i.player ≡ steady p t d → Made side carrying (by_player i.player o None q) i NotMade i
+    steady-waits e = subst (λ (p : Player W). Made side carrying (by_player p o None q) i NotMade i) (sym e) (refl, refl)
 
-    pub nobody-steady : i.player ≡ nobody → Made side carrying (by_player i.player None o None) i NotMade i
-    nobody-steady e = subst (λ (p : Player W). Made side carrying (by_player p None o None) i NotMade i) (sym e) (refl, refl)
-
-    pub between-steady : {b : Between} {t u : ℕ} {d : DrawnPlan W} → i.player ≡ between b t u d → Made side carrying (by_player i.player None o None) i NotMade i
-    between-steady e = subst (λ (p : Player W). Made side carrying (by_player p None o None) i NotMade i) (sym e) (refl, refl)
-
-    pub nobody-between : i.player ≡ nobody → Made side carrying (by_player i.player None None o) i NotMade i
-    nobody-between e = subst (λ (p : Player W). Made side carrying (by_player p None None o) i NotMade i) (sym e) (refl, refl)
-
-    pub steady-between : {p : Steady} {t : ℕ} {d : DrawnPlan W} → i.player ≡ steady p t d → Made side carrying (by_player i.player None None o) i NotMade i
-    steady-between e = subst (λ (p : Player W). Made side carrying (by_player p None None o) i NotMade i) (sym e) (refl, refl)
+    between-waits : {b : Between} {t u : ℕ} {d : DrawnPlan W} → i.player ≡ between b t u d → Made side carrying (by_player i.player o q None) i NotMade i
+    between-waits e = subst (λ (p : Player W). Made side carrying (by_player p o q None) i NotMade i) (sym e) (refl, refl)
 
   module _ (s : Sheet) where
     -- The same of equal seats and answers.
@@ -106,38 +97,25 @@ module _ {W F : Type 0} (side : W → W → Side) (carrying : F → List Bool) w
       free-waits call.Open other t = absurd (both_ways true (sym t) refl)
       free-waits (call.Draw b) other t = absurd (both_ways true (sym t) refl)
       free-waits (call.Lay to) other t = absurd (other to refl)
-      free-waits call.Forward other t = λ at l x h. (x.installation, nobody-steady x.installation (Some forward) h.player, unchanged f refl h)
-      free-waits call.Backward other t = λ at l x h. (x.installation, nobody-steady x.installation (Some backward) h.player, unchanged f refl h)
-      free-waits call.Join other t = λ at l x h. (x.installation, nobody-between x.installation (Some join) h.player, unchanged f refl h)
-      free-waits call.Cancel other t = λ at l x h. (x.installation, nobody-between x.installation (Some cancel) h.player, unchanged f refl h)
-      free-waits call.Abandon other t = λ at l x h. (x.installation, nobody-between x.installation (Some abandon) h.player, unchanged f refl h)
-      free-waits call.Finish other t = λ at l x h. (x.installation, nobody-steady x.installation (Some finish) h.player, unchanged f refl h)
+      free-waits _ other t = λ at l x h. (x.installation, nobody-waits x.installation _ _ h.player, unchanged f refl h)
 
       pub still-waits : (p : Steady) (c : Call) → (c ≡ call.Forward → ⊥) → (c ≡ call.Backward → ⊥) → (c ≡ call.Finish → ⊥)
           → Placed c NotMade (Still p) f (Still p) f
       still-waits p call.Open n m o t = absurd (both_ways true (sym t) refl)
       still-waits p (call.Draw b) n m o t = absurd (both_ways true (sym t) refl)
-      still-waits p (call.Lay to) n m o t = λ at l x h.
-          (x.installation, steady-seated x.installation (lay_it (plan_at x.plans to)) h.player.3, unchanged f refl h)
       still-waits p call.Forward n m o t = absurd (n refl)
       still-waits p call.Backward n m o t = absurd (m refl)
-      still-waits p call.Join n m o t = λ at l x h. (x.installation, steady-between x.installation (Some join) h.player.3, unchanged f refl h)
-      still-waits p call.Cancel n m o t = λ at l x h. (x.installation, steady-between x.installation (Some cancel) h.player.3, unchanged f refl h)
-      still-waits p call.Abandon n m o t = λ at l x h. (x.installation, steady-between x.installation (Some abandon) h.player.3, unchanged f refl h)
       still-waits p call.Finish n m o t = absurd (o refl)
+      still-waits p _ n m o t = λ at l x h. (x.installation, steady-waits x.installation _ _ h.player.3, unchanged f refl h)
 
       pub moving-waits : (b : Between) (c : Call) → (c ≡ call.Join → ⊥) → (c ≡ call.Cancel → ⊥) → (c ≡ call.Abandon → ⊥)
           → Placed c NotMade (Moving b) f (Moving b) f
       moving-waits b call.Open n m o t = absurd (both_ways true (sym t) refl)
       moving-waits b (call.Draw d) n m o t = absurd (both_ways true (sym t) refl)
-      moving-waits b (call.Lay to) n m o t = λ at l x h.
-          (x.installation, between-seated x.installation (lay_it (plan_at x.plans to)) h.player.4, unchanged f refl h)
-      moving-waits b call.Forward n m o t = λ at l x h. (x.installation, between-steady x.installation (Some forward) h.player.4, unchanged f refl h)
-      moving-waits b call.Backward n m o t = λ at l x h. (x.installation, between-steady x.installation (Some backward) h.player.4, unchanged f refl h)
       moving-waits b call.Join n m o t = absurd (n refl)
       moving-waits b call.Cancel n m o t = absurd (m refl)
       moving-waits b call.Abandon n m o t = absurd (o refl)
-      moving-waits b call.Finish n m o t = λ at l x h. (x.installation, between-steady x.installation (Some finish) h.player.4, unchanged f refl h)
+      moving-waits b _ n m o t = λ at l x h. (x.installation, between-waits x.installation _ _ h.player.4, unchanged f refl h)
 
     module _ (at : ℕ) (f : F) where
       -- The call ends the player.
