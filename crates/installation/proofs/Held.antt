@@ -36,15 +36,15 @@ use Rattle.installation.proofs.Turned.{nobody-waits}
 -- What an answer tells of the fault.
 pub granted-none : {X E : Type 0} (o : Option E) (x y : X) → Ok x ≡ unless o y → (o ≡ None) × (x ≡ y)
 granted-none None x y e = (refl, cc)
-granted-none (Some f) x y e = absurd (let z : ◌≡◌ {A = ℕ} 0 1 = cc in omega arith)
+granted-none (Some f) x y e = absurd (cc)
 
 pub refused-some : {X E : Type 0} (o : Option E) (f : E) (y : X) → Err f ≡ unless o y → o ≡ Some f
-refused-some None f y e = absurd (let z : ◌≡◌ {A = ℕ} 0 1 = cc in omega arith)
+refused-some None f y e = absurd (cc)
 refused-some (Some g) f y e = cc
 
 not_some : {X : Type 0} (o : Option X) → is_some o ≡ false → o ≡ None
 not_some None e = refl
-not_some (Some x) e = absurd (both_ways true e refl)
+not_some (Some x) e = absurd (cc)
 
 -- A table written over twice.
 drop-front : {X : Type 0} (xs ys : List X) → drop (length xs) (xs ++ ys) ≡ ys
@@ -62,16 +62,16 @@ get_or-mapped f (o ∷ os) zero = refl
 get_or-mapped f (o ∷ os) (suc s) = get_or-mapped f os s
 
 mapped-some : {X Y : Type 0} (f : X → Y) (o : Option X) (y : Y) → option_map f o ≡ Some y → (x : X) × (o ≡ Some x) × (f x ≡ y)
-mapped-some f None y e = absurd (let z : ◌≡◌ {A = ℕ} 0 1 = cc in omega arith)
+mapped-some f None y e = absurd (cc)
 mapped-some f (Some x) y e = (x, refl, cc)
 
 mapped-none : {X Y : Type 0} (f : X → Y) (o : Option X) → option_map f o ≡ None → o ≡ None
 mapped-none f None e = refl
-mapped-none f (Some x) e = absurd (let z : ◌≡◌ {A = ℕ} 0 1 = cc in omega arith)
+mapped-none f (Some x) e = absurd (cc)
 
 some-within : {X : Type 0} (os : List (Option X)) (s : ℕ) (x : X) → get_or os s None ≡ Some x → s < length os
 some-within os s x e =
-    elim (cases_lt s (length os)) [ inl h ↦ h | inr h ↦ absurd (let a = get_or_past os s None h in let z : ◌≡◌ {A = ℕ} 0 1 = cc in omega arith) ]
+    elim (cases_lt s (length os)) [ inl h ↦ h | inr h ↦ absurd (let a = get_or_past os s None h in cc) ]
 
 -- The plan in a slot, as code that holds this reads it.
 module _ {W F : Type 0} (h : Hand W F) (slot : ℕ) where
@@ -128,13 +128,13 @@ holds_as {side = side} l x y h g a eb ed ep ea seated ef k = record {
 -- When a draw is made.
 may : (b : Batch) (changes slots : ℕ) (o : Option OpenFault) (s : Seat) (at : ℕ) → may_draw b changes slots o s at ≡ true
     → (o ≡ None) × ((leb b.from b.to && leb b.to changes && ltb b.slot slots) ≡ true) × ((is_free s || not (eqb b.slot at)) ≡ true)
-may b changes slots (Some f) s at e = absurd (both_ways true (sym e) refl)
+may b changes slots (Some f) s at e = absurd (cc)
 may b changes slots None s at e =
     let q = both (leb b.from b.to && leb b.to changes && ltb b.slot slots) (is_free s || not (eqb b.slot at)) e in (refl, q.0, q.1)
   where
     both : (p q : Bool) → cond p q false ≡ true → (p ≡ true) × (q ≡ true)
     both true q e = (refl, e)
-    both false q e = absurd (both_ways true (sym e) refl)
+    both false q e = absurd (cc)
 
 pub may-slot : (b : Batch) (changes slots : ℕ) (o : Option OpenFault) (s : Seat) (at : ℕ) → may_draw b changes slots o s at ≡ true → b.slot < slots
 may-slot b changes slots o s at e =
@@ -146,7 +146,7 @@ to-player (call.Draw b) o d = absurd (d b refl)
 to-player _ o d = refl
 
 plans-stay : {W : Type 0} (c : Call) → to_player c ≡ true → (a : Answer) (ds : List (DrawnPlan W)) (ps : List (Option (DrawnPlan W))) → ps ≡ plans_after c a ds ps
-plans-stay (call.Draw b) t a ds ps = absurd (both_ways true (sym t) refl)
+plans-stay (call.Draw b) t a ds ps = absurd (cc)
 plans-stay _ t a ds ps = refl
 
 -- A draw keeps off the slot of the player's plan.
@@ -187,19 +187,19 @@ module _ {W F : Type 0} (side : W → W → Side) (carrying : F → List Bool) w
     waits : (test here : Bool) (s : Seat) (o : Option (DrawnPlan W)) (p : Player W) → Seated s o p → cond test (is_free s || not here) false ≡ false
         → Made side carrying (allowed test here p) i NotMade i
     waits false here s o p h e = (refl, refl)
-    waits true here Free o p h e = absurd (both_ways true e refl)
+    waits true here Free o p h e = absurd (cc)
     waits true true (Still a) o p h e = subst (λ (z : Player W). Made side carrying (allowed true true z) i NotMade i) (sym h.3) (refl, refl)
-    waits true false (Still a) o p h e = absurd (both_ways true e refl)
+    waits true false (Still a) o p h e = absurd (cc)
     waits true true (Moving a) o p h e = subst (λ (z : Player W). Made side carrying (allowed true true z) i NotMade i) (sym h.4) (refl, refl)
-    waits true false (Moving a) o p h e = absurd (both_ways true e refl)
+    waits true false (Moving a) o p h e = absurd (cc)
 
     goes : {a : Answer} {j : Installation W F} (test here : Bool) (s : Seat) (o : Option (DrawnPlan W)) (p : Player W) → Seated s o p → test ≡ true
         → (is_free s || not here) ≡ true → Step side carrying i q a j → Made side carrying (allowed test here p) i a j
-    goes false here s o p h t e m = absurd (both_ways false refl t)
+    goes false here s o p h t e m = absurd (cc)
     goes {a} {j} true here Free o p h t e m = subst (λ (z : Player W). Made side carrying (allowed true here z) i a j) (sym h) m
-    goes true true (Still b) o p h t e m = absurd (both_ways false refl e)
+    goes true true (Still b) o p h t e m = absurd (cc)
     goes {a} {j} true false (Still b) o p h t e m = subst (λ (z : Player W). Made side carrying (allowed true false z) i a j) (sym h.3) m
-    goes true true (Moving b) o p h t e m = absurd (both_ways false refl e)
+    goes true true (Moving b) o p h t e m = absurd (cc)
     goes {a} {j} true false (Moving b) o p h t e m = subst (λ (z : Player W). Made side carrying (allowed true false z) i a j) (sym h.4) m
 
   module _ {h : Hand W F} {l : Lent W} {x : Desk W F} (k : Holds side l h x) where
@@ -439,8 +439,7 @@ module _ {W F : Type 0} (side : W → W → Side) (carrying : F → List Bool) w
 
   -- The same of an equal call and an equal answer.
   pub makes-as : {c c' : Call} {a a' : Answer} {h g : Hand W F} → c ≡ c' → a ≡ a' → Makes side carrying h c' a' g → Makes side carrying h c a g
-  makes-as {c} {c'} {a} {a'} {h} {g} p q m =
-      subst (λ (z : Call). Makes side carrying h z a g) (sym p) (subst (λ (z : Answer). Makes side carrying h c' z g) (sym q) m)
+  makes-as p q m = rw (p, q) m
 
   -- A further open.
   pub open-again : (h : Hand W F) → Makes side carrying h call.Open (open_answer h.refusal) h
@@ -465,10 +464,10 @@ module _ {W F : Type 0} (side : W → W → Side) (carrying : F → List Bool) w
   module _ (l : Lent W) (x : Desk W F) where
     no-plan : (c : Call) (seat : Seat) → to_player c ≡ true → Seated seat (plan_at x.plans x.at) x.installation.player
         → plan_at x.plans (place_of c seat x.at) ≡ None → Made side carrying (asked l x c) x.installation NotMade x.installation
-    no-plan c (Still p) t h e = absurd (let a = h.2 in let b = ap (plan_at x.plans) (own-place c (Still p) x.at refl) in let z : ◌≡◌ {A = ℕ} 0 1 = cc in omega arith)
-    no-plan c (Moving p) t h e = absurd (let a = h.3 in let b = ap (plan_at x.plans) (own-place c (Moving p) x.at refl) in let z : ◌≡◌ {A = ℕ} 0 1 = cc in omega arith)
-    no-plan call.Open Free t h e = absurd (both_ways true (sym t) refl)
-    no-plan (call.Draw b) Free t h e = absurd (both_ways true (sym t) refl)
+    no-plan c (Still p) t h e = absurd (let a = h.2 in let b = ap (plan_at x.plans) (own-place c (Still p) x.at refl) in cc)
+    no-plan c (Moving p) t h e = absurd (let a = h.3 in let b = ap (plan_at x.plans) (own-place c (Moving p) x.at refl) in cc)
+    no-plan call.Open Free t h e = absurd (cc)
+    no-plan (call.Draw b) Free t h e = absurd (cc)
     no-plan (call.Lay s) Free t h e =
         subst (λ (p : Player W). Made side carrying (by_player p (lay_it (plan_at x.plans s)) None None) x.installation NotMade x.installation) (sym h)
         (subst (λ (o : Option (DrawnPlan W)). Made side carrying (lay_it o) x.installation NotMade x.installation) (sym e) (refl, refl))
@@ -602,7 +601,7 @@ module _ {W F : Type 0} (side : W → W → Side) (carrying : F → List Bool) w
         book = subst (λ (z : Option OpenFault). Booked side l z h.links h.tree o) (sym q) b;
         slots = length-replicate l.slots None;
         plans = hp ∙ new-plans l.slots;
-        drawn = λ s d e. absurd (let a = none-there l.slots s in let z : ◌≡◌ {A = ℕ} 0 1 = cc in omega arith);
+        drawn = λ s d e. absurd (let a = none-there l.slots s in cc);
         start = subst (λ (t : List ℕ). Table l.slots (start_in {W = W} (replicate l.slots None)) l.start t) (sym hs) (new-start l);
         entries = subst (λ (t : List (ℕ × ℕ)). Table l.slots (entries_in {W = W} (replicate l.slots None)) l.entries t) (sym hen) (new-entries l);
         at = ha;

@@ -53,21 +53,19 @@ module _ {W F : Type 0} (side : W → W → Side) (carrying : F → List Bool) w
   -- Any other is not.
   module _ (i : Installation W F) (o q : Option (Request W)) where
     pub nobody-waits : i.player ≡ nobody → Made side carrying (by_player i.player None o q) i NotMade i
-    nobody-waits e = subst (λ (p : Player W). Made side carrying (by_player p None o q) i NotMade i) (sym e) (refl, refl)
+    nobody-waits e = rw e (refl, refl)
 
     steady-waits : {p : Steady} {t : ℕ} {d : DrawnPlan W} → i.player ≡ steady p t d → Made side carrying (by_player i.player o None q) i NotMade i
-    steady-waits e = subst (λ (p : Player W). Made side carrying (by_player p o None q) i NotMade i) (sym e) (refl, refl)
+    steady-waits e = rw e (refl, refl)
 
     between-waits : {b : Between} {t u : ℕ} {d : DrawnPlan W} → i.player ≡ between b t u d → Made side carrying (by_player i.player o q None) i NotMade i
-    between-waits e = subst (λ (p : Player W). Made side carrying (by_player p o q None) i NotMade i) (sym e) (refl, refl)
+    between-waits e = rw e (refl, refl)
 
   module _ (s : Sheet) where
     -- The same of equal seats and answers.
     plays-as : {y y' : Seat} {a a' : Answer} (at : ℕ) (c : Call) (x : Seat) (f f' : F) → (y ≡ y') × (a ≡ a')
         → Plays side carrying s at c a' x f y' f' → Plays side carrying s at c a x f y f'
-    plays-as {y} {y'} {a} {a'} at c x f f' e h =
-        subst (λ (z : Seat). Plays side carrying s at c a x f z f') (sym e.0)
-        (subst (λ (z : Answer). Plays side carrying s at c z x f y' f') (sym e.1) h)
+    plays-as at c x f f' e h = rw (e.0, e.1) h
 
     -- A player's call, with the plan of the slot that it needs.
     abbrev pub Placed : Call → Answer → Seat → F → Seat → F → Type 0
@@ -75,11 +73,7 @@ module _ {W F : Type 0} (side : W → W → Side) (carrying : F → List Bool) w
 
     pub placed : {c c' : Call} {x x' : Seat} {y y' : Seat} {a a' : Answer} {f f' : F} → c ≡ c' → x ≡ x' → (y ≡ y') × (a ≡ a')
         → Placed c' a' x' f y' f' → Placed c a x f y f'
-    placed {c} {c'} {x} {x'} {y} {y'} {a} {a'} {f} {f'} p q e h =
-        subst (λ (z : Call). Placed z a x f y f') (sym p)
-        (subst (λ (z : Seat). Placed c' a z f y f') (sym q)
-        (subst (λ (z : Seat). Placed c' a x' f z f') (sym e.0)
-        (subst (λ (z : Answer). Placed c' z x' f y' f') (sym e.1) h)))
+    placed p q e h = rw (p, q, e.0, e.1) h
 
     -- The call is not made.
     unchanged : {x : Desk W F} {at : ℕ} {seat : Seat} {c : Call} (f : F) → slot_after c NotMade x.at ≡ x.at → PlanHeld s at seat f x
@@ -94,15 +88,15 @@ module _ {W F : Type 0} (side : W → W → Side) (carrying : F → List Bool) w
     module _ (f : F) where
       -- A free seat allows lay alone, a steady player forward, backward and finish, one between join, cancel and abandon.
       pub free-waits : (c : Call) → ((to : ℕ) → c ≡ call.Lay to → ⊥) → Placed c NotMade Free f Free f
-      free-waits call.Open other t = absurd (both_ways true (sym t) refl)
-      free-waits (call.Draw b) other t = absurd (both_ways true (sym t) refl)
+      free-waits call.Open other t = absurd (cc)
+      free-waits (call.Draw b) other t = absurd (cc)
       free-waits (call.Lay to) other t = absurd (other to refl)
       free-waits _ other t = λ at l x h. (x.installation, nobody-waits x.installation _ _ h.player, unchanged f refl h)
 
       pub still-waits : (p : Steady) (c : Call) → (c ≡ call.Forward → ⊥) → (c ≡ call.Backward → ⊥) → (c ≡ call.Finish → ⊥)
           → Placed c NotMade (Still p) f (Still p) f
-      still-waits p call.Open n m o t = absurd (both_ways true (sym t) refl)
-      still-waits p (call.Draw b) n m o t = absurd (both_ways true (sym t) refl)
+      still-waits p call.Open n m o t = absurd (cc)
+      still-waits p (call.Draw b) n m o t = absurd (cc)
       still-waits p call.Forward n m o t = absurd (n refl)
       still-waits p call.Backward n m o t = absurd (m refl)
       still-waits p call.Finish n m o t = absurd (o refl)
@@ -110,8 +104,8 @@ module _ {W F : Type 0} (side : W → W → Side) (carrying : F → List Bool) w
 
       pub moving-waits : (b : Between) (c : Call) → (c ≡ call.Join → ⊥) → (c ≡ call.Cancel → ⊥) → (c ≡ call.Abandon → ⊥)
           → Placed c NotMade (Moving b) f (Moving b) f
-      moving-waits b call.Open n m o t = absurd (both_ways true (sym t) refl)
-      moving-waits b (call.Draw d) n m o t = absurd (both_ways true (sym t) refl)
+      moving-waits b call.Open n m o t = absurd (cc)
+      moving-waits b (call.Draw d) n m o t = absurd (cc)
       moving-waits b call.Join n m o t = absurd (n refl)
       moving-waits b call.Cancel n m o t = absurd (m refl)
       moving-waits b call.Abandon n m o t = absurd (o refl)
