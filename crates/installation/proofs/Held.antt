@@ -109,19 +109,19 @@ holds_as {side = side} l x y h g a eb ed ep ea seated ef k = record {
   ends = a.ends ∙ k.ends;
   changes = a.changes ∙ k.changes;
   work = a.work ∙ k.work;
-  book = subst (λ (o : Option (Network _)). Booked side l g.refusal g.links g.tree o) (sym eb)
-      (subst (λ (o : Option OpenFault). Booked side l o g.links g.tree x.installation.book) (sym a.refusal)
-      (subst (λ (ls : List (LinkState _)). Booked side l h.refusal ls g.tree x.installation.book) (sym a.links)
-      (subst (λ (t : List ℕ). Booked side l h.refusal h.links t x.installation.book) (sym a.tree) k.book)));
+  book = rw eb
+      (rw a.refusal
+      (rw a.links
+      (rw a.tree k.book)));
   slots = ap length ep ∙ k.slots;
   plans = a.plans ∙ k.plans ∙ ap (map (option_map counted)) (sym ep);
-  drawn = λ s d e. subst (λ (ds : List (DrawnPlan _)). One d ds) (sym ed) (k.drawn s d (sym (ap (λ ps. plan_at ps s) ep) ∙ e));
-  start = subst (λ (ps : List (Option (DrawnPlan _))). Table l.slots (start_in ps) l.start g.start) (sym ep)
-      (subst (λ (t : List ℕ). Table l.slots (start_in x.plans) l.start t) (sym a.start) k.start);
-  entries = subst (λ (ps : List (Option (DrawnPlan _))). Table l.slots (entries_in ps) l.entries g.entries) (sym ep)
-      (subst (λ (t : List (ℕ × ℕ)). Table l.slots (entries_in x.plans) l.entries t) (sym a.entries) k.entries);
+  drawn = λ s d e. rw ed (k.drawn s d (sym (ap (λ ps. plan_at ps s) ep) ∙ e));
+  start = rw ep
+      (rw a.start k.start);
+  entries = rw ep
+      (rw a.entries k.entries);
   at = ea;
-  player = subst (λ (ps : List (Option (DrawnPlan _))). Seated g.seat (plan_at ps y.at) y.installation.player) (sym ep) seated;
+  player = rw ep seated;
   fabric = ef;
 }
 
@@ -188,19 +188,19 @@ module _ {W F : Type 0} (side : W → W → Side) (carrying : F → List Bool) w
         → Made side carrying (allowed test here p) i NotMade i
     waits false here s o p h e = (refl, refl)
     waits true here Free o p h e = absurd (cc)
-    waits true true (Still a) o p h e = subst (λ (z : Player W). Made side carrying (allowed true true z) i NotMade i) (sym h.3) (refl, refl)
+    waits true true (Still a) o p h e = rw h.3 (refl, refl)
     waits true false (Still a) o p h e = absurd (cc)
-    waits true true (Moving a) o p h e = subst (λ (z : Player W). Made side carrying (allowed true true z) i NotMade i) (sym h.4) (refl, refl)
+    waits true true (Moving a) o p h e = rw h.4 (refl, refl)
     waits true false (Moving a) o p h e = absurd (cc)
 
     goes : {a : Answer} {j : Installation W F} (test here : Bool) (s : Seat) (o : Option (DrawnPlan W)) (p : Player W) → Seated s o p → test ≡ true
         → (is_free s || not here) ≡ true → Step side carrying i q a j → Made side carrying (allowed test here p) i a j
     goes false here s o p h t e m = absurd (cc)
-    goes {a} {j} true here Free o p h t e m = subst (λ (z : Player W). Made side carrying (allowed true here z) i a j) (sym h) m
+    goes {a} {j} true here Free o p h t e m = rw h m
     goes true true (Still b) o p h t e m = absurd (cc)
-    goes {a} {j} true false (Still b) o p h t e m = subst (λ (z : Player W). Made side carrying (allowed true false z) i a j) (sym h.3) m
+    goes {a} {j} true false (Still b) o p h t e m = rw h.3 m
     goes true true (Moving b) o p h t e m = absurd (cc)
-    goes {a} {j} true false (Moving b) o p h t e m = subst (λ (z : Player W). Made side carrying (allowed true false z) i a j) (sym h.4) m
+    goes {a} {j} true false (Moving b) o p h t e m = rw h.4 m
 
   module _ {h : Hand W F} {l : Lent W} {x : Desk W F} (k : Holds side l h x) where
     slots-are : length h.plans ≡ l.slots
@@ -221,7 +221,7 @@ module _ {W F : Type 0} (side : W → W → Side) (carrying : F → List Bool) w
       go : (r : Option OpenFault) → Booked side l r h.links h.tree x.installation.book → may_draw b (length l.changes) l.slots r h.seat x.at ≡ false
           → Made side carrying (if_open x.installation.book (wanted l x b)) x.installation NotMade x.installation
       go (Some f) q e =
-          subst (λ (z : Option (Network W)). Made side carrying (if_open z (wanted l x b)) x.installation NotMade x.installation) (sym q.0) (refl, refl)
+          rw q.0 (refl, refl)
       go None q e =
           subst (λ (z : Option (Network W)). Made side carrying (if_open z (wanted l x b)) x.installation NotMade x.installation) (sym q.0)
           (waits x.installation (drawn l x b) (leb b.from b.to && leb b.to (length l.changes) && ltb b.slot l.slots) (eqb b.slot x.at)
@@ -303,7 +303,7 @@ module _ {W F : Type 0} (side : W → W → Side) (carrying : F → List Bool) w
           let w : width (length h.plans) now ≡ width l.slots was = same_width was now t.long in
           let long : length ys ≡ width l.slots was =
           n ∙ part-long (length h.plans) b.slot now (let q = slots-are k in let i = in-slots in omega arith) ∙ w in
-          subst (λ (z : List _). Table l.slots after was z) (sym (e ∙ ap (λ v. put_mid (b.slot * v) v now ys) w))
+          rw (e ∙ ap (λ v. put_mid (b.slot * v) v now ys) w)
           (table-put l.slots b.slot before after was now ys in-slots long here others t)
 
       -- The plans in the slots, once one is drawn.
@@ -328,8 +328,8 @@ module _ {W F : Type 0} (side : W → W → Side) (carrying : F → List Bool) w
         still-seated : (s : Seat) → (is_free s || not (eqb b.slot x.at)) ≡ true → Seated s (plan_at x.plans x.at) x.installation.player
             → Seated s (plan_at shelved x.at) x.installation.player
         still-seated Free e p = p
-        still-seated (Still a) e p = subst (λ (o : Option (DrawnPlan W)). Seated (Still a) o x.installation.player) (sym (elsewhere x.at (differ x.at b.slot e))) p
-        still-seated (Moving a) e p = subst (λ (o : Option (DrawnPlan W)). Seated (Moving a) o x.installation.player) (sym (elsewhere x.at (differ x.at b.slot e))) p
+        still-seated (Still a) e p = rw (elsewhere x.at (differ x.at b.slot e)) p
+        still-seated (Moving a) e p = rw (elsewhere x.at (differ x.at b.slot e)) p
 
         written_start : (g : Hand W F) (ss : List ℕ)
             → g.start ≡ put_mid (b.slot * width (length h.plans) h.start) (width (length h.plans) h.start) h.start ss
@@ -391,7 +391,7 @@ module _ {W F : Type 0} (side : W → W → Side) (carrying : F → List Bool) w
         let y : Desk W F = record { installation = j; plans = set x.plans b.slot (Some d); at = x.at } in (
           y,
           record {
-            made = made go l x k (subst (λ (z : Drawn). Step side carrying x.installation (drawn l x b) (Drew z) j) (sym c-is)
+            made = made go l x k (rw c-is
                 (draw-granted net own st en l.work (book-is go l x k) no));
             plans = refl;
             at = refl;
@@ -401,7 +401,7 @@ module _ {W F : Type 0} (side : W → W → Side) (carrying : F → List Bool) w
             ends = ge ∙ k.ends;
             changes = gc ∙ k.changes;
             work = gw ∙ k.work;
-            book = subst (λ (z : Option OpenFault). Booked side l z g.links g.tree j.book) (sym (gr ∙ (ready go l x k).0))
+            book = rw (gr ∙ (ready go l x k).0)
                 (ap (λ ls. Some (record { n = l.net.n; ends = l.net.ends; links = ls })) (sym links-is), tree_is);
             slots = length-set x.plans b.slot (Some d) ∙ k.slots;
             plans = gp ∙ ap (λ (z : Drawn). set h.plans b.slot (Some z)) c-is ∙ ap (λ (ps : List (Option Drawn)). set ps b.slot (Some (counted d))) k.plans
@@ -415,7 +415,7 @@ module _ {W F : Type 0} (side : W → W → Side) (carrying : F → List Bool) w
                 ∙ ap (λ cs. fronted (plan side l.net.ends h.links cs) (own_part h.entries)) (same-batch go l x k)
                 ∙ ap (λ t. fronted (plan side l.net.ends h.links (ours go l x k)) t) (entries-are go l x k)) es-long;
             at = ga ∙ k.at;
-            player = subst (λ (s : Seat). Seated s (plan_at y.plans x.at) x.installation.player) (sym gs)
+            player = rw gs
                 (still-seated go l x k d h.seat (ready go l x k).2 k.player);
             fabric = k.fabric ∙ sym gf;
           },
@@ -433,7 +433,7 @@ module _ {W F : Type 0} (side : W → W → Side) (carrying : F → List Bool) w
             plans = refl;
             at = refl;
           },
-          holds_as l x x h g a refl refl refl (ga ∙ k.at) (subst (λ (s : Seat). Seated s (plan_at x.plans x.at) x.installation.player) (sym gs) k.player)
+          holds_as l x x h g a refl refl refl (ga ∙ k.at) (rw gs k.player)
               (k.fabric ∙ sym gf) k,
         )
 
@@ -447,15 +447,13 @@ module _ {W F : Type 0} (side : W → W → Side) (carrying : F → List Bool) w
     where
       go : (r : Option OpenFault) → Booked side l r h.links h.tree x.installation.book → Turn side carrying l x call.Open (open_answer r) x
       go (Some f) b = record {
-        made = subst (λ (o : Option (Network W)).
-            Made side carrying (if_closed o (Some (opening l.net (length l.tree) l.work))) x.installation (NotOpened f) x.installation) (sym b.0)
+        made = rw b.0
             (open-refused l.net (length l.tree) l.work f b.1);
         plans = refl;
         at = refl;
       }
       go None b = record {
-        made = subst (λ (o : Option (Network W)).
-            Made side carrying (if_closed o (Some (opening l.net (length l.tree) l.work))) x.installation NotMade x.installation) (sym b.0) (refl, refl);
+        made = rw b.0 (refl, refl);
         plans = refl;
         at = refl;
       }
@@ -469,8 +467,8 @@ module _ {W F : Type 0} (side : W → W → Side) (carrying : F → List Bool) w
     no-plan call.Open Free t h e = absurd (cc)
     no-plan (call.Draw b) Free t h e = absurd (cc)
     no-plan (call.Lay s) Free t h e =
-        subst (λ (p : Player W). Made side carrying (by_player p (lay_it (plan_at x.plans s)) None None) x.installation NotMade x.installation) (sym h)
-        (subst (λ (o : Option (DrawnPlan W)). Made side carrying (lay_it o) x.installation NotMade x.installation) (sym e) (refl, refl))
+        rw h
+        (rw e (refl, refl))
     no-plan _ Free t h e = nobody-waits side carrying x.installation _ _ h
 
   pub play-waits : (c : Call) (h : Hand W F) → to_player c ≡ true → None ≡ sheet_of h (place_of c h.seat h.at) → Makes side carrying h c NotMade h
@@ -530,7 +528,7 @@ module _ {W F : Type 0} (side : W → W → Side) (carrying : F → List Bool) w
   turns_then (next n t) u = next n (turns_then t u)
 
   run-made : {k i j : Installation W F} (a : Answer) (o : Option (Request W)) → Made side carrying o i a j → Runs side carrying k i → Runs side carrying k j
-  run-made {k} a None m r = subst (λ (z : Installation W F). Runs side carrying k z) (sym m.1) r
+  run-made {k} a None m r = rw m.1 r
   run-made a (Some q) m r = then r m
 
   run-turns : {l : Lent W} {k : Installation W F} {x y : Desk W F} {cs : List Call} {rs : List Answer} → Turns side carrying l x cs rs y
@@ -560,7 +558,7 @@ module _ {W F : Type 0} (side : W → W → Side) (carrying : F → List Bool) w
   pub new-waits : (c : Call) → (c ≡ call.Open → ⊥) → (l : Lent W) (f : F) → Turn side carrying l (fresh l f) c NotMade (fresh l f)
   new-waits call.Open o l f = absurd (o refl)
   new-waits (call.Lay s) o l f = record {
-    made = subst (λ (o : Option (DrawnPlan W)). Made side carrying (lay_it o) (new f) NotMade (new f)) (sym (none-there l.slots s)) (refl, refl);
+    made = rw (none-there l.slots s) (refl, refl);
     plans = refl;
     at = refl;
   }
@@ -598,14 +596,14 @@ module _ {W F : Type 0} (side : W → W → Side) (carrying : F → List Bool) w
         ends = he;
         changes = hc;
         work = hw;
-        book = subst (λ (z : Option OpenFault). Booked side l z h.links h.tree o) (sym q) b;
+        book = rw q b;
         slots = length-replicate l.slots None;
         plans = hp ∙ new-plans l.slots;
         drawn = λ s d e. absurd (let a = none-there l.slots s in cc);
-        start = subst (λ (t : List ℕ). Table l.slots (start_in {W = W} (replicate l.slots None)) l.start t) (sym hs) (new-start l);
-        entries = subst (λ (t : List (ℕ × ℕ)). Table l.slots (entries_in {W = W} (replicate l.slots None)) l.entries t) (sym hen) (new-entries l);
+        start = rw hs (new-start l);
+        entries = rw hen (new-entries l);
         at = ha;
-        player = subst (λ (s : Seat). Seated {W = W} s (plan_at (replicate l.slots None) 0) nobody) (sym hse) refl;
+        player = rw hse refl;
         fabric = hf;
       }
 
@@ -646,7 +644,7 @@ module _ {W F : Type 0} (side : W → W → Side) (carrying : F → List Bool) w
       let whole : cs ≡ take at cs ++ call.Open ∷ drop (at + 1) cs =
       sym (take-append-drop at cs) ∙ ap (λ z. take at cs ++ z) (drop_more cs at call.Open in1 ∙ ap (λ z. z ∷ drop (at + 1) cs) e) in (
         r.0,
-        subst (λ (z : List Call). Turns side carrying l (fresh l f) z (rs ++ a ∷ tail) r.0) (sym whole) (turns_then before (next opens.1 r.1)),
+        rw whole (turns_then before (next opens.1 r.1)),
         r.2,
       )
 

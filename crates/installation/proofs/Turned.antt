@@ -82,7 +82,7 @@ module _ {W F : Type 0} (side : W → W → Side) (carrying : F → List Bool) w
       book = refl;
       drawn = refl;
       fabric = h.fabric;
-      player = subst (λ (z : ℕ). Seated seat (plan_at x.plans z) x.installation.player) (sym e) h.player;
+      player = rw e h.player;
     }
 
     module _ (f : F) where
@@ -136,16 +136,15 @@ module _ {W F : Type 0} (side : W → W → Side) (carrying : F → List Bool) w
           → Step side carrying x.installation (laying h.plan.sheet) a j
           → Made side carrying (by_player x.installation.player (lay_it (plan_at x.plans at)) None None) x.installation a j
       to-lay {x} {j} {a} h y =
-          subst (λ (o : Option (DrawnPlan W)). Made side carrying (by_player x.installation.player (lay_it o) None None) x.installation a j)
-          (sym h.there) (made-nobody x.installation h.player y)
+          rw h.there (made-nobody x.installation h.player y)
 
       -- The call is granted or refused.
       pub laid-plan : (p : Steady) → Lays s (carrying f) (Ok p) (carrying g) → Plays side carrying s at (call.Lay at) Granted Free f (Still p) g
       laid-plan p y l x h = (
         laid x.installation g (steady p 0 h.plan),
         to-lay h (lay-granted h.plan p g h.one h.player
-            (subst (λ (z : Sheet). Lays z (carrying x.installation.fabric) (Ok p) (carrying g)) (sym h.sheet)
-            (subst (λ (z : F). Lays s (carrying z) (Ok p) (carrying g)) (sym h.fabric) y))),
+            (rw h.sheet
+            (rw h.fabric y))),
         record { book = refl; drawn = refl; fabric = refl; player = (0, h.plan, h.there, refl) },
       )
 
@@ -153,8 +152,8 @@ module _ {W F : Type 0} (side : W → W → Side) (carrying : F → List Bool) w
       lay-fails e y l x h = (
         played x.installation g x.installation.player,
         to-lay h (lay-refused h.plan.sheet e g
-            (subst (λ (z : Sheet). Lays z (carrying x.installation.fabric) (Err e) (carrying g)) (sym h.sheet)
-            (subst (λ (z : F). Lays s (carrying z) (Err e) (carrying g)) (sym h.fabric) y))),
+            (rw h.sheet
+            (rw h.fabric y))),
         record { book = refl; drawn = refl; fabric = refl; player = h.player },
       )
 
@@ -180,7 +179,7 @@ module _ {W F : Type 0} (side : W → W → Side) (carrying : F → List Bool) w
             played i g (departed t (t + 1) d r),
             made-steady i e (forwards p t d r g e
                 (subst (λ (z : Sheet). Forwards (rest p) z (carrying i.fabric) r (carrying g)) (own-plan h (h.own refl) d h.player.2)
-                (subst (λ (z : F). Forwards (rest p) s (carrying z) r (carrying g)) (sym h.fabric) y))),
+                (rw h.fabric y))),
             record { book = refl; drawn = refl; fabric = refl; player = gone t (t + 1) d (plan_at x.plans x.at) r h.player.2 },
           ))
 
@@ -194,7 +193,7 @@ module _ {W F : Type 0} (side : W → W → Side) (carrying : F → List Bool) w
             played i g (departed t (t - 1) d r),
             made-steady i e (backwards p t d r g e
                 (subst (λ (z : Sheet). Backwards (rest p) z (carrying i.fabric) r (carrying g)) (own-plan h (h.own refl) d h.player.2)
-                (subst (λ (z : F). Backwards (rest p) s (carrying z) r (carrying g)) (sym h.fabric) y))),
+                (rw h.fabric y))),
             record { book = refl; drawn = refl; fabric = refl; player = gone t (t - 1) d (plan_at x.plans x.at) r h.player.2 },
           ))
 
@@ -207,7 +206,7 @@ module _ {W F : Type 0} (side : W → W → Side) (carrying : F → List Bool) w
           let d = h.player.2 in
           let e = h.player.4 in (
             played i g (arrived_at t u u d r),
-            made-between i e (joins b t u d r g e (subst (λ (z : F). Joins (way b) (carrying z) r (carrying g)) (sym h.fabric) y)),
+            made-between i e (joins b t u d r g e (rw h.fabric y)),
             record { book = refl; drawn = refl; fabric = refl; player = come t u u d (plan_at x.plans x.at) r h.player.3 },
           ))
 
@@ -220,6 +219,6 @@ module _ {W F : Type 0} (side : W → W → Side) (carrying : F → List Bool) w
           let d = h.player.2 in
           let e = h.player.4 in (
             played i g (arrived_at t u t d r),
-            made-between i e (cancels b t u d r g e (subst (λ (z : F). Cancels (way b) (carrying z) r (carrying g)) (sym h.fabric) y)),
+            made-between i e (cancels b t u d r g e (rw h.fabric y)),
             record { book = refl; drawn = refl; fabric = refl; player = come t u t d (plan_at x.plans x.at) r h.player.3 },
           ))
