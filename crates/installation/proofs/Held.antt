@@ -109,17 +109,12 @@ holds_as {side = side} l x y h g a eb ed ep ea seated ef k = record {
   ends = a.ends ∙ k.ends;
   changes = a.changes ∙ k.changes;
   work = a.work ∙ k.work;
-  book = rw eb
-      (rw a.refusal
-      (rw a.links
-      (rw a.tree k.book)));
+  book = rw (eb, a.refusal, a.links, a.tree) k.book;
   slots = ap length ep ∙ k.slots;
   plans = a.plans ∙ k.plans ∙ ap (map (option_map counted)) (sym ep);
   drawn = λ s d e. rw ed (k.drawn s d (sym (ap (λ ps. plan_at ps s) ep) ∙ e));
-  start = rw ep
-      (rw a.start k.start);
-  entries = rw ep
-      (rw a.entries k.entries);
+  start = rw (ep, a.start) k.start;
+  entries = rw (ep, a.entries) k.entries;
   at = ea;
   player = rw ep seated;
   fabric = ef;
@@ -209,10 +204,7 @@ module _ {W F : Type 0} (side : W → W → Side) (carrying : F → List Bool) w
     -- When a draw is made, by what was lent.
     may-lent : (b : Batch) (t : Bool) → may_draw b (length h.changes) (length h.plans) h.refusal h.seat h.at ≡ t
         → may_draw b (length l.changes) l.slots h.refusal h.seat x.at ≡ t
-    may-lent b t e =
-        sym (ap (λ cs. may_draw b (length cs) l.slots h.refusal h.seat x.at) k.changes)
-        ∙ sym (ap (λ n. may_draw b (length h.changes) n h.refusal h.seat x.at) slots-are)
-        ∙ sym (ap (λ n. may_draw b (length h.changes) (length h.plans) h.refusal h.seat n) k.at) ∙ e
+    may-lent b t e = rw (← k.changes, ← slots-are, ← k.at) e
 
   pub draw-waits : (b : Batch) (h : Hand W F) → may_draw b (length h.changes) (length h.plans) h.refusal h.seat h.at ≡ false
       → Makes side carrying h (call.Draw b) NotMade h
@@ -220,8 +212,7 @@ module _ {W F : Type 0} (side : W → W → Side) (carrying : F → List Bool) w
     where
       go : (r : Option OpenFault) → Booked side l r h.links h.tree x.installation.book → may_draw b (length l.changes) l.slots r h.seat x.at ≡ false
           → Made side carrying (if_open x.installation.book (wanted l x b)) x.installation NotMade x.installation
-      go (Some f) q e =
-          rw q.0 (refl, refl)
+      go (Some f) q e = rw q.0 (refl, refl)
       go None q e =
           subst (λ (z : Option (Network W)). Made side carrying (if_open z (wanted l x b)) x.installation NotMade x.installation) (sym q.0)
           (waits x.installation (drawn l x b) (leb b.from b.to && leb b.to (length l.changes) && ltb b.slot l.slots) (eqb b.slot x.at)
@@ -278,14 +269,7 @@ module _ {W F : Type 0} (side : W → W → Side) (carrying : F → List Bool) w
       book-is = (subst (λ (o : Option OpenFault). Booked side l o h.links h.tree x.installation.book) ready.0 k.book).0
 
       same-fault : fault ≡ draw_fault None l.net.n l.net.ends h.links ours (length starts) (length entries) l.work
-      same-fault =
-          ap (λ o. draw_fault o h.n h.ends h.links batch (length (own_part h.start)) (length (own_part h.entries)) h.work) ready.0
-          ∙ ap (λ n. draw_fault None n h.ends h.links batch (length (own_part h.start)) (length (own_part h.entries)) h.work) k.nodes
-          ∙ ap (λ es. draw_fault None l.net.n es h.links batch (length (own_part h.start)) (length (own_part h.entries)) h.work) k.ends
-          ∙ ap (λ c. draw_fault None l.net.n l.net.ends h.links c (length (own_part h.start)) (length (own_part h.entries)) h.work) same-batch
-          ∙ ap (λ s. draw_fault None l.net.n l.net.ends h.links ours (length s) (length (own_part h.entries)) h.work) start_is
-          ∙ ap (λ e. draw_fault None l.net.n l.net.ends h.links ours (length starts) (length e) h.work) entries-are
-          ∙ ap (λ w. draw_fault None l.net.n l.net.ends h.links ours (length starts) (length entries) w) k.work
+      same-fault = rw (ready.0, k.nodes, k.ends, k.changes, k.work, start_is, entries-are) refl
 
       -- The draw is made.
       made : {j : Installation W F} {a : Answer} → Step side carrying x.installation (drawn l x b) a j
@@ -370,14 +354,11 @@ module _ {W F : Type 0} (side : W → W → Side) (carrying : F → List Bool) w
         let no : draw_fault None net.n net.ends net.links own (length st) (length en) l.work ≡ None = sym (same-fault go l x k) ∙ r.0 in
         let d = drawn_from side net own st en in
         let c-is : c ≡ counts side net.n net.ends net.links own =
-        r.1 ∙ ap (λ n. counts side n h.ends h.links batch) k.nodes ∙ ap (λ es. counts side l.net.n es h.links batch) k.ends
-        ∙ ap (λ cs. counts side l.net.n l.net.ends h.links cs) (same-batch go l x k) in
+        r.1 ∙ rw (k.nodes, k.ends, k.changes) refl in
         let links-is : g.links ≡ changed_by h.links own = gl ∙ ap (changed_by h.links) (same-batch go l x k) in
         let acc : Accepted net =
-        subst (λ (n : ℕ). Accepted (record { n = n; ends = l.net.ends; links = h.links })) k.nodes
-        (subst (λ (es : List Ends). Accepted (record { n = h.n; ends = es; links = h.links })) k.ends
-        (open-accepts (record { n = h.n; ends = h.ends; links = h.links }) (length h.tree) (64 * (h.n + length h.ends))
-        (not_some _ (sound (ap (λ (x : Option OpenFault). is_some x) (ready go l x k).0))))) in
+        rw (← k.nodes, ← k.ends) (open-accepts (record { n = h.n; ends = h.ends; links = h.links }) (length h.tree) (64 * (h.n + length h.ends))
+        (not_some _ (sound (ap (λ (x : Option OpenFault). is_some x) (ready go l x k).0)))) in
         let acc' = all-accepted net acc own (length st) (length en) l.work no in
         let old = least_tree side l.net.ends h.links in
         let newer = least_tree side l.net.ends (changed_by h.links own) in
@@ -466,9 +447,7 @@ module _ {W F : Type 0} (side : W → W → Side) (carrying : F → List Bool) w
     no-plan c (Moving p) t h e = absurd (let a = h.3 in let b = ap (plan_at x.plans) (own-place c (Moving p) x.at refl) in cc)
     no-plan call.Open Free t h e = absurd (cc)
     no-plan (call.Draw b) Free t h e = absurd (cc)
-    no-plan (call.Lay s) Free t h e =
-        rw h
-        (rw e (refl, refl))
+    no-plan (call.Lay s) Free t h e = rw (h, e) (refl, refl)
     no-plan _ Free t h e = nobody-waits side carrying x.installation _ _ h
 
   pub play-waits : (c : Call) (h : Hand W F) → to_player c ≡ true → None ≡ sheet_of h (place_of c h.seat h.at) → Makes side carrying h c NotMade h

@@ -135,16 +135,14 @@ module _ {W F : Type 0} (side : W → W → Side) (carrying : F → List Bool) w
       to-lay : {x : Desk W F} {j : Installation W F} {a : Answer} (h : PlanHeld s at Free f x)
           → Step side carrying x.installation (laying h.plan.sheet) a j
           → Made side carrying (by_player x.installation.player (lay_it (plan_at x.plans at)) None None) x.installation a j
-      to-lay {x} {j} {a} h y =
-          rw h.there (made-nobody x.installation h.player y)
+      to-lay {x} {j} {a} h y = rw h.there (made-nobody x.installation h.player y)
 
       -- The call is granted or refused.
       pub laid-plan : (p : Steady) → Lays s (carrying f) (Ok p) (carrying g) → Plays side carrying s at (call.Lay at) Granted Free f (Still p) g
       laid-plan p y l x h = (
         laid x.installation g (steady p 0 h.plan),
         to-lay h (lay-granted h.plan p g h.one h.player
-            (rw h.sheet
-            (rw h.fabric y))),
+            (rw (h.sheet, h.fabric) y)),
         record { book = refl; drawn = refl; fabric = refl; player = (0, h.plan, h.there, refl) },
       )
 
@@ -152,8 +150,7 @@ module _ {W F : Type 0} (side : W → W → Side) (carrying : F → List Bool) w
       lay-fails e y l x h = (
         played x.installation g x.installation.player,
         to-lay h (lay-refused h.plan.sheet e g
-            (rw h.sheet
-            (rw h.fabric y))),
+            (rw (h.sheet, h.fabric) y)),
         record { book = refl; drawn = refl; fabric = refl; player = h.player },
       )
 
