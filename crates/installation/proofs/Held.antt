@@ -471,11 +471,11 @@ module _ {W F : Type 0} (side : W → W → Side) (carrying : F → List Bool) w
       let d = found.0 in
       let inside : place < l.slots = let a = some-within x.plans place d found.1 in let b = k.slots in omega arith in
       let st : d.sheet.start ≡ part (width (length h.plans) h.start) place h.start =
-      sym (ap (λ w. part w place h.start) (ap₂ (λ m n. m / n) k.start.long (slots-are k)) ∙ k.start.part-is place inside
-      ∙ ap (λ (o : Option (DrawnPlan W)). or_kept (option_map (λ (z : DrawnPlan W). z.sheet.start) o) (part (width l.slots l.start) place l.start)) found.1) in
+      rw (k.start.long, slots-are k) (sym (k.start.part-is place inside
+      ∙ ap (λ (o : Option (DrawnPlan W)). or_kept (option_map (λ (z : DrawnPlan W). z.sheet.start) o) (part (width l.slots l.start) place l.start)) found.1)) in
       let en : d.sheet.entries ≡ part (width (length h.plans) h.entries) place h.entries =
-      sym (ap (λ w. part w place h.entries) (ap₂ (λ m n. m / n) k.entries.long (slots-are k)) ∙ k.entries.part-is place inside
-      ∙ ap (λ (o : Option (DrawnPlan W)). or_kept (option_map (λ (z : DrawnPlan W). z.sheet.entries) o) (part (width l.slots l.entries) place l.entries)) found.1) in
+      rw (k.entries.long, slots-are k) (sym (k.entries.part-is place inside
+      ∙ ap (λ (o : Option (DrawnPlan W)). or_kept (option_map (λ (z : DrawnPlan W). z.sheet.entries) o) (part (width l.slots l.entries) place l.entries)) found.1)) in
       let same : d.sheet ≡ s =
       ap (λ (z : Drawn). record { n = z.n; m = z.m; k = z.k; start = d.sheet.start; entries = d.sheet.entries }) found.2
       ∙ ap₂ (λ (u : List ℕ) (v : List (ℕ × ℕ)). record { n = read.0.n; m = read.0.m; k = read.0.k; start = u; entries = v }) st en ∙ read.2 in
