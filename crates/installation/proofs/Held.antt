@@ -31,20 +31,20 @@ use Rattle.installation.specs.Perform.{Lent, Desk, fresh, plan_at, start_in, ent
 use Rattle.installation.specs.Hands.{Hand, Booked, Holds, Makes, Leads, is_free, may_draw, place_of, to_player, first_answer, open_answer}
 use Rattle.installation.specs.Turns.{Plays}
 use Rattle.installation.proofs.Tables.{part-long, table-new, table-put}
-use Rattle.installation.proofs.Turned.{nobody-steady, nobody-between}
+use Rattle.installation.proofs.Turned.{nobody-waits}
 
 -- What an answer tells of the fault.
 pub granted-none : {X E : Type 0} (o : Option E) (x y : X) → Ok x ≡ unless o y → (o ≡ None) × (x ≡ y)
 granted-none None x y e = (refl, cc)
-granted-none (Some f) x y e = absurd (let z : ◌≡◌ {A = ℕ} 0 1 = cc in omega arith)
+granted-none (Some f) x y e = absurd (cc)
 
 pub refused-some : {X E : Type 0} (o : Option E) (f : E) (y : X) → Err f ≡ unless o y → o ≡ Some f
-refused-some None f y e = absurd (let z : ◌≡◌ {A = ℕ} 0 1 = cc in omega arith)
+refused-some None f y e = absurd (cc)
 refused-some (Some g) f y e = cc
 
 not_some : {X : Type 0} (o : Option X) → is_some o ≡ false → o ≡ None
 not_some None e = refl
-not_some (Some x) e = absurd (both_ways true e refl)
+not_some (Some x) e = absurd (cc)
 
 -- A table written over twice.
 drop-front : {X : Type 0} (xs ys : List X) → drop (length xs) (xs ++ ys) ≡ ys
@@ -62,16 +62,16 @@ get_or-mapped f (o ∷ os) zero = refl
 get_or-mapped f (o ∷ os) (suc s) = get_or-mapped f os s
 
 mapped-some : {X Y : Type 0} (f : X → Y) (o : Option X) (y : Y) → option_map f o ≡ Some y → (x : X) × (o ≡ Some x) × (f x ≡ y)
-mapped-some f None y e = absurd (let z : ◌≡◌ {A = ℕ} 0 1 = cc in omega arith)
+mapped-some f None y e = absurd (cc)
 mapped-some f (Some x) y e = (x, refl, cc)
 
 mapped-none : {X Y : Type 0} (f : X → Y) (o : Option X) → option_map f o ≡ None → o ≡ None
 mapped-none f None e = refl
-mapped-none f (Some x) e = absurd (let z : ◌≡◌ {A = ℕ} 0 1 = cc in omega arith)
+mapped-none f (Some x) e = absurd (cc)
 
 some-within : {X : Type 0} (os : List (Option X)) (s : ℕ) (x : X) → get_or os s None ≡ Some x → s < length os
 some-within os s x e =
-    elim (cases_lt s (length os)) [ inl h ↦ h | inr h ↦ absurd (let a = get_or_past os s None h in let z : ◌≡◌ {A = ℕ} 0 1 = cc in omega arith) ]
+    elim (cases_lt s (length os)) [ inl h ↦ h | inr h ↦ absurd (let a = get_or_past os s None h in cc) ]
 
 -- The plan in a slot, as code that holds this reads it.
 module _ {W F : Type 0} (h : Hand W F) (slot : ℕ) where
@@ -109,32 +109,27 @@ holds_as {side = side} l x y h g a eb ed ep ea seated ef k = record {
   ends = a.ends ∙ k.ends;
   changes = a.changes ∙ k.changes;
   work = a.work ∙ k.work;
-  book = subst (λ (o : Option (Network _)). Booked side l g.refusal g.links g.tree o) (sym eb)
-      (subst (λ (o : Option OpenFault). Booked side l o g.links g.tree x.installation.book) (sym a.refusal)
-      (subst (λ (ls : List (LinkState _)). Booked side l h.refusal ls g.tree x.installation.book) (sym a.links)
-      (subst (λ (t : List ℕ). Booked side l h.refusal h.links t x.installation.book) (sym a.tree) k.book)));
+  book = rw (eb, a.refusal, a.links, a.tree) k.book;
   slots = ap length ep ∙ k.slots;
   plans = a.plans ∙ k.plans ∙ ap (map (option_map counted)) (sym ep);
-  drawn = λ s d e. subst (λ (ds : List (DrawnPlan _)). One d ds) (sym ed) (k.drawn s d (sym (ap (λ ps. plan_at ps s) ep) ∙ e));
-  start = subst (λ (ps : List (Option (DrawnPlan _))). Table l.slots (start_in ps) l.start g.start) (sym ep)
-      (subst (λ (t : List ℕ). Table l.slots (start_in x.plans) l.start t) (sym a.start) k.start);
-  entries = subst (λ (ps : List (Option (DrawnPlan _))). Table l.slots (entries_in ps) l.entries g.entries) (sym ep)
-      (subst (λ (t : List (ℕ × ℕ)). Table l.slots (entries_in x.plans) l.entries t) (sym a.entries) k.entries);
+  drawn = λ s d e. rw ed (k.drawn s d (sym (ap (λ ps. plan_at ps s) ep) ∙ e));
+  start = rw (ep, a.start) k.start;
+  entries = rw (ep, a.entries) k.entries;
   at = ea;
-  player = subst (λ (ps : List (Option (DrawnPlan _))). Seated g.seat (plan_at ps y.at) y.installation.player) (sym ep) seated;
+  player = rw ep seated;
   fabric = ef;
 }
 
 -- When a draw is made.
 may : (b : Batch) (changes slots : ℕ) (o : Option OpenFault) (s : Seat) (at : ℕ) → may_draw b changes slots o s at ≡ true
     → (o ≡ None) × ((leb b.from b.to && leb b.to changes && ltb b.slot slots) ≡ true) × ((is_free s || not (eqb b.slot at)) ≡ true)
-may b changes slots (Some f) s at e = absurd (both_ways true (sym e) refl)
+may b changes slots (Some f) s at e = absurd (cc)
 may b changes slots None s at e =
     let q = both (leb b.from b.to && leb b.to changes && ltb b.slot slots) (is_free s || not (eqb b.slot at)) e in (refl, q.0, q.1)
   where
     both : (p q : Bool) → cond p q false ≡ true → (p ≡ true) × (q ≡ true)
     both true q e = (refl, e)
-    both false q e = absurd (both_ways true (sym e) refl)
+    both false q e = absurd (cc)
 
 pub may-slot : (b : Batch) (changes slots : ℕ) (o : Option OpenFault) (s : Seat) (at : ℕ) → may_draw b changes slots o s at ≡ true → b.slot < slots
 may-slot b changes slots o s at e =
@@ -143,24 +138,11 @@ may-slot b changes slots o s at e =
 pub to-player : (c : Call) → (c ≡ call.Open → ⊥) → ((b : Batch) → c ≡ call.Draw b → ⊥) → to_player c ≡ true
 to-player call.Open o d = absurd (o refl)
 to-player (call.Draw b) o d = absurd (d b refl)
-to-player (call.Lay s) o d = refl
-to-player call.Forward o d = refl
-to-player call.Backward o d = refl
-to-player call.Join o d = refl
-to-player call.Cancel o d = refl
-to-player call.Abandon o d = refl
-to-player call.Finish o d = refl
+to-player _ o d = refl
 
 plans-stay : {W : Type 0} (c : Call) → to_player c ≡ true → (a : Answer) (ds : List (DrawnPlan W)) (ps : List (Option (DrawnPlan W))) → ps ≡ plans_after c a ds ps
-plans-stay call.Open t a ds ps = refl
-plans-stay (call.Draw b) t a ds ps = absurd (both_ways true (sym t) refl)
-plans-stay (call.Lay s) t a ds ps = refl
-plans-stay call.Forward t a ds ps = refl
-plans-stay call.Backward t a ds ps = refl
-plans-stay call.Join t a ds ps = refl
-plans-stay call.Cancel t a ds ps = refl
-plans-stay call.Abandon t a ds ps = refl
-plans-stay call.Finish t a ds ps = refl
+plans-stay (call.Draw b) t a ds ps = absurd (cc)
+plans-stay _ t a ds ps = refl
 
 -- A draw keeps off the slot of the player's plan.
 differ : (at slot : ℕ) → (false || not (eqb slot at)) ≡ true → at ≡ slot → ⊥
@@ -172,27 +154,13 @@ differ at slot e q =
 
 -- A player's call needs the player's plan, where there is a player.
 own-place : (c : Call) (seat : Seat) (at : ℕ) → is_free seat ≡ false → place_of c seat at ≡ at
-own-place call.Open seat at e = refl
-own-place (call.Draw b) seat at e = refl
 own-place (call.Lay s) seat at e = ap (λ z. cond z s at) e
-own-place call.Forward seat at e = refl
-own-place call.Backward seat at e = refl
-own-place call.Join seat at e = refl
-own-place call.Cancel seat at e = refl
-own-place call.Abandon seat at e = refl
-own-place call.Finish seat at e = refl
+own-place _ seat at e = refl
 
 -- A call that is not made moves no player's slot.
 pub slot-stays : (c : Call) (at : ℕ) → slot_after c NotMade at ≡ at
-slot-stays call.Open at = refl
-slot-stays (call.Draw b) at = refl
 slot-stays (call.Lay s) at = refl
-slot-stays call.Forward at = refl
-slot-stays call.Backward at = refl
-slot-stays call.Join at = refl
-slot-stays call.Cancel at = refl
-slot-stays call.Abandon at = refl
-slot-stays call.Finish at = refl
+slot-stays _ at = refl
 
 module _ {W F : Type 0} (side : W → W → Side) (carrying : F → List Bool) where
   -- A call that is not made.
@@ -214,20 +182,20 @@ module _ {W F : Type 0} (side : W → W → Side) (carrying : F → List Bool) w
     waits : (test here : Bool) (s : Seat) (o : Option (DrawnPlan W)) (p : Player W) → Seated s o p → cond test (is_free s || not here) false ≡ false
         → Made side carrying (allowed test here p) i NotMade i
     waits false here s o p h e = (refl, refl)
-    waits true here Free o p h e = absurd (both_ways true e refl)
-    waits true true (Still a) o p h e = subst (λ (z : Player W). Made side carrying (allowed true true z) i NotMade i) (sym h.3) (refl, refl)
-    waits true false (Still a) o p h e = absurd (both_ways true e refl)
-    waits true true (Moving a) o p h e = subst (λ (z : Player W). Made side carrying (allowed true true z) i NotMade i) (sym h.4) (refl, refl)
-    waits true false (Moving a) o p h e = absurd (both_ways true e refl)
+    waits true here Free o p h e = absurd (cc)
+    waits true true (Still a) o p h e = rw h.3 (refl, refl)
+    waits true false (Still a) o p h e = absurd (cc)
+    waits true true (Moving a) o p h e = rw h.4 (refl, refl)
+    waits true false (Moving a) o p h e = absurd (cc)
 
     goes : {a : Answer} {j : Installation W F} (test here : Bool) (s : Seat) (o : Option (DrawnPlan W)) (p : Player W) → Seated s o p → test ≡ true
         → (is_free s || not here) ≡ true → Step side carrying i q a j → Made side carrying (allowed test here p) i a j
-    goes false here s o p h t e m = absurd (both_ways false refl t)
-    goes {a} {j} true here Free o p h t e m = subst (λ (z : Player W). Made side carrying (allowed true here z) i a j) (sym h) m
-    goes true true (Still b) o p h t e m = absurd (both_ways false refl e)
-    goes {a} {j} true false (Still b) o p h t e m = subst (λ (z : Player W). Made side carrying (allowed true false z) i a j) (sym h.3) m
-    goes true true (Moving b) o p h t e m = absurd (both_ways false refl e)
-    goes {a} {j} true false (Moving b) o p h t e m = subst (λ (z : Player W). Made side carrying (allowed true false z) i a j) (sym h.4) m
+    goes false here s o p h t e m = absurd (cc)
+    goes {a} {j} true here Free o p h t e m = rw h m
+    goes true true (Still b) o p h t e m = absurd (cc)
+    goes {a} {j} true false (Still b) o p h t e m = rw h.3 m
+    goes true true (Moving b) o p h t e m = absurd (cc)
+    goes {a} {j} true false (Moving b) o p h t e m = rw h.4 m
 
   module _ {h : Hand W F} {l : Lent W} {x : Desk W F} (k : Holds side l h x) where
     slots-are : length h.plans ≡ l.slots
@@ -236,10 +204,7 @@ module _ {W F : Type 0} (side : W → W → Side) (carrying : F → List Bool) w
     -- When a draw is made, by what was lent.
     may-lent : (b : Batch) (t : Bool) → may_draw b (length h.changes) (length h.plans) h.refusal h.seat h.at ≡ t
         → may_draw b (length l.changes) l.slots h.refusal h.seat x.at ≡ t
-    may-lent b t e =
-        sym (ap (λ cs. may_draw b (length cs) l.slots h.refusal h.seat x.at) k.changes)
-        ∙ sym (ap (λ n. may_draw b (length h.changes) n h.refusal h.seat x.at) slots-are)
-        ∙ sym (ap (λ n. may_draw b (length h.changes) (length h.plans) h.refusal h.seat n) k.at) ∙ e
+    may-lent b t e = rw (← k.changes, ← slots-are, ← k.at) e
 
   pub draw-waits : (b : Batch) (h : Hand W F) → may_draw b (length h.changes) (length h.plans) h.refusal h.seat h.at ≡ false
       → Makes side carrying h (call.Draw b) NotMade h
@@ -247,8 +212,7 @@ module _ {W F : Type 0} (side : W → W → Side) (carrying : F → List Bool) w
     where
       go : (r : Option OpenFault) → Booked side l r h.links h.tree x.installation.book → may_draw b (length l.changes) l.slots r h.seat x.at ≡ false
           → Made side carrying (if_open x.installation.book (wanted l x b)) x.installation NotMade x.installation
-      go (Some f) q e =
-          subst (λ (z : Option (Network W)). Made side carrying (if_open z (wanted l x b)) x.installation NotMade x.installation) (sym q.0) (refl, refl)
+      go (Some f) q e = rw q.0 (refl, refl)
       go None q e =
           subst (λ (z : Option (Network W)). Made side carrying (if_open z (wanted l x b)) x.installation NotMade x.installation) (sym q.0)
           (waits x.installation (drawn l x b) (leb b.from b.to && leb b.to (length l.changes) && ltb b.slot l.slots) (eqb b.slot x.at)
@@ -305,14 +269,7 @@ module _ {W F : Type 0} (side : W → W → Side) (carrying : F → List Bool) w
       book-is = (subst (λ (o : Option OpenFault). Booked side l o h.links h.tree x.installation.book) ready.0 k.book).0
 
       same-fault : fault ≡ draw_fault None l.net.n l.net.ends h.links ours (length starts) (length entries) l.work
-      same-fault =
-          ap (λ o. draw_fault o h.n h.ends h.links batch (length (own_part h.start)) (length (own_part h.entries)) h.work) ready.0
-          ∙ ap (λ n. draw_fault None n h.ends h.links batch (length (own_part h.start)) (length (own_part h.entries)) h.work) k.nodes
-          ∙ ap (λ es. draw_fault None l.net.n es h.links batch (length (own_part h.start)) (length (own_part h.entries)) h.work) k.ends
-          ∙ ap (λ c. draw_fault None l.net.n l.net.ends h.links c (length (own_part h.start)) (length (own_part h.entries)) h.work) same-batch
-          ∙ ap (λ s. draw_fault None l.net.n l.net.ends h.links ours (length s) (length (own_part h.entries)) h.work) start_is
-          ∙ ap (λ e. draw_fault None l.net.n l.net.ends h.links ours (length starts) (length e) h.work) entries-are
-          ∙ ap (λ w. draw_fault None l.net.n l.net.ends h.links ours (length starts) (length entries) w) k.work
+      same-fault = rw (ready.0, k.nodes, k.ends, k.changes, k.work, start_is, entries-are) refl
 
       -- The draw is made.
       made : {j : Installation W F} {a : Answer} → Step side carrying x.installation (drawn l x b) a j
@@ -330,7 +287,7 @@ module _ {W F : Type 0} (side : W → W → Side) (carrying : F → List Bool) w
           let w : width (length h.plans) now ≡ width l.slots was = same_width was now t.long in
           let long : length ys ≡ width l.slots was =
           n ∙ part-long (length h.plans) b.slot now (let q = slots-are k in let i = in-slots in omega arith) ∙ w in
-          subst (λ (z : List _). Table l.slots after was z) (sym (e ∙ ap (λ v. put_mid (b.slot * v) v now ys) w))
+          rw (e ∙ ap (λ v. put_mid (b.slot * v) v now ys) w)
           (table-put l.slots b.slot before after was now ys in-slots long here others t)
 
       -- The plans in the slots, once one is drawn.
@@ -355,8 +312,8 @@ module _ {W F : Type 0} (side : W → W → Side) (carrying : F → List Bool) w
         still-seated : (s : Seat) → (is_free s || not (eqb b.slot x.at)) ≡ true → Seated s (plan_at x.plans x.at) x.installation.player
             → Seated s (plan_at shelved x.at) x.installation.player
         still-seated Free e p = p
-        still-seated (Still a) e p = subst (λ (o : Option (DrawnPlan W)). Seated (Still a) o x.installation.player) (sym (elsewhere x.at (differ x.at b.slot e))) p
-        still-seated (Moving a) e p = subst (λ (o : Option (DrawnPlan W)). Seated (Moving a) o x.installation.player) (sym (elsewhere x.at (differ x.at b.slot e))) p
+        still-seated (Still a) e p = rw (elsewhere x.at (differ x.at b.slot e)) p
+        still-seated (Moving a) e p = rw (elsewhere x.at (differ x.at b.slot e)) p
 
         written_start : (g : Hand W F) (ss : List ℕ)
             → g.start ≡ put_mid (b.slot * width (length h.plans) h.start) (width (length h.plans) h.start) h.start ss
@@ -397,14 +354,11 @@ module _ {W F : Type 0} (side : W → W → Side) (carrying : F → List Bool) w
         let no : draw_fault None net.n net.ends net.links own (length st) (length en) l.work ≡ None = sym (same-fault go l x k) ∙ r.0 in
         let d = drawn_from side net own st en in
         let c-is : c ≡ counts side net.n net.ends net.links own =
-        r.1 ∙ ap (λ n. counts side n h.ends h.links batch) k.nodes ∙ ap (λ es. counts side l.net.n es h.links batch) k.ends
-        ∙ ap (λ cs. counts side l.net.n l.net.ends h.links cs) (same-batch go l x k) in
+        r.1 ∙ rw (k.nodes, k.ends, k.changes) refl in
         let links-is : g.links ≡ changed_by h.links own = gl ∙ ap (changed_by h.links) (same-batch go l x k) in
         let acc : Accepted net =
-        subst (λ (n : ℕ). Accepted (record { n = n; ends = l.net.ends; links = h.links })) k.nodes
-        (subst (λ (es : List Ends). Accepted (record { n = h.n; ends = es; links = h.links })) k.ends
-        (open-accepts (record { n = h.n; ends = h.ends; links = h.links }) (length h.tree) (64 * (h.n + length h.ends))
-        (not_some _ (sound (ap (λ (x : Option OpenFault). is_some x) (ready go l x k).0))))) in
+        rw (← k.nodes, ← k.ends) (open-accepts (record { n = h.n; ends = h.ends; links = h.links }) (length h.tree) (64 * (h.n + length h.ends))
+        (not_some _ (sound (ap (λ (x : Option OpenFault). is_some x) (ready go l x k).0)))) in
         let acc' = all-accepted net acc own (length st) (length en) l.work no in
         let old = least_tree side l.net.ends h.links in
         let newer = least_tree side l.net.ends (changed_by h.links own) in
@@ -418,7 +372,7 @@ module _ {W F : Type 0} (side : W → W → Side) (carrying : F → List Bool) w
         let y : Desk W F = record { installation = j; plans = set x.plans b.slot (Some d); at = x.at } in (
           y,
           record {
-            made = made go l x k (subst (λ (z : Drawn). Step side carrying x.installation (drawn l x b) (Drew z) j) (sym c-is)
+            made = made go l x k (rw c-is
                 (draw-granted net own st en l.work (book-is go l x k) no));
             plans = refl;
             at = refl;
@@ -428,7 +382,7 @@ module _ {W F : Type 0} (side : W → W → Side) (carrying : F → List Bool) w
             ends = ge ∙ k.ends;
             changes = gc ∙ k.changes;
             work = gw ∙ k.work;
-            book = subst (λ (z : Option OpenFault). Booked side l z g.links g.tree j.book) (sym (gr ∙ (ready go l x k).0))
+            book = rw (gr ∙ (ready go l x k).0)
                 (ap (λ ls. Some (record { n = l.net.n; ends = l.net.ends; links = ls })) (sym links-is), tree_is);
             slots = length-set x.plans b.slot (Some d) ∙ k.slots;
             plans = gp ∙ ap (λ (z : Drawn). set h.plans b.slot (Some z)) c-is ∙ ap (λ (ps : List (Option Drawn)). set ps b.slot (Some (counted d))) k.plans
@@ -442,7 +396,7 @@ module _ {W F : Type 0} (side : W → W → Side) (carrying : F → List Bool) w
                 ∙ ap (λ cs. fronted (plan side l.net.ends h.links cs) (own_part h.entries)) (same-batch go l x k)
                 ∙ ap (λ t. fronted (plan side l.net.ends h.links (ours go l x k)) t) (entries-are go l x k)) es-long;
             at = ga ∙ k.at;
-            player = subst (λ (s : Seat). Seated s (plan_at y.plans x.at) x.installation.player) (sym gs)
+            player = rw gs
                 (still-seated go l x k d h.seat (ready go l x k).2 k.player);
             fabric = k.fabric ∙ sym gf;
           },
@@ -460,14 +414,13 @@ module _ {W F : Type 0} (side : W → W → Side) (carrying : F → List Bool) w
             plans = refl;
             at = refl;
           },
-          holds_as l x x h g a refl refl refl (ga ∙ k.at) (subst (λ (s : Seat). Seated s (plan_at x.plans x.at) x.installation.player) (sym gs) k.player)
+          holds_as l x x h g a refl refl refl (ga ∙ k.at) (rw gs k.player)
               (k.fabric ∙ sym gf) k,
         )
 
   -- The same of an equal call and an equal answer.
   pub makes-as : {c c' : Call} {a a' : Answer} {h g : Hand W F} → c ≡ c' → a ≡ a' → Makes side carrying h c' a' g → Makes side carrying h c a g
-  makes-as {c} {c'} {a} {a'} {h} {g} p q m =
-      subst (λ (z : Call). Makes side carrying h z a g) (sym p) (subst (λ (z : Answer). Makes side carrying h c' z g) (sym q) m)
+  makes-as p q m = rw (p, q) m
 
   -- A further open.
   pub open-again : (h : Hand W F) → Makes side carrying h call.Open (open_answer h.refusal) h
@@ -475,15 +428,13 @@ module _ {W F : Type 0} (side : W → W → Side) (carrying : F → List Bool) w
     where
       go : (r : Option OpenFault) → Booked side l r h.links h.tree x.installation.book → Turn side carrying l x call.Open (open_answer r) x
       go (Some f) b = record {
-        made = subst (λ (o : Option (Network W)).
-            Made side carrying (if_closed o (Some (opening l.net (length l.tree) l.work))) x.installation (NotOpened f) x.installation) (sym b.0)
+        made = rw b.0
             (open-refused l.net (length l.tree) l.work f b.1);
         plans = refl;
         at = refl;
       }
       go None b = record {
-        made = subst (λ (o : Option (Network W)).
-            Made side carrying (if_closed o (Some (opening l.net (length l.tree) l.work))) x.installation NotMade x.installation) (sym b.0) (refl, refl);
+        made = rw b.0 (refl, refl);
         plans = refl;
         at = refl;
       }
@@ -492,19 +443,12 @@ module _ {W F : Type 0} (side : W → W → Side) (carrying : F → List Bool) w
   module _ (l : Lent W) (x : Desk W F) where
     no-plan : (c : Call) (seat : Seat) → to_player c ≡ true → Seated seat (plan_at x.plans x.at) x.installation.player
         → plan_at x.plans (place_of c seat x.at) ≡ None → Made side carrying (asked l x c) x.installation NotMade x.installation
-    no-plan c (Still p) t h e = absurd (let a = h.2 in let b = ap (plan_at x.plans) (own-place c (Still p) x.at refl) in let z : ◌≡◌ {A = ℕ} 0 1 = cc in omega arith)
-    no-plan c (Moving p) t h e = absurd (let a = h.3 in let b = ap (plan_at x.plans) (own-place c (Moving p) x.at refl) in let z : ◌≡◌ {A = ℕ} 0 1 = cc in omega arith)
-    no-plan call.Open Free t h e = absurd (both_ways true (sym t) refl)
-    no-plan (call.Draw b) Free t h e = absurd (both_ways true (sym t) refl)
-    no-plan (call.Lay s) Free t h e =
-        subst (λ (p : Player W). Made side carrying (by_player p (lay_it (plan_at x.plans s)) None None) x.installation NotMade x.installation) (sym h)
-        (subst (λ (o : Option (DrawnPlan W)). Made side carrying (lay_it o) x.installation NotMade x.installation) (sym e) (refl, refl))
-    no-plan call.Forward Free t h e = nobody-steady side carrying x.installation _ h
-    no-plan call.Backward Free t h e = nobody-steady side carrying x.installation _ h
-    no-plan call.Join Free t h e = nobody-between side carrying x.installation _ h
-    no-plan call.Cancel Free t h e = nobody-between side carrying x.installation _ h
-    no-plan call.Abandon Free t h e = nobody-between side carrying x.installation _ h
-    no-plan call.Finish Free t h e = nobody-steady side carrying x.installation _ h
+    no-plan c (Still p) t h e = absurd (let a = h.2 in let b = ap (plan_at x.plans) (own-place c (Still p) x.at refl) in cc)
+    no-plan c (Moving p) t h e = absurd (let a = h.3 in let b = ap (plan_at x.plans) (own-place c (Moving p) x.at refl) in cc)
+    no-plan call.Open Free t h e = absurd (cc)
+    no-plan (call.Draw b) Free t h e = absurd (cc)
+    no-plan (call.Lay s) Free t h e = rw (h, e) (refl, refl)
+    no-plan _ Free t h e = nobody-waits side carrying x.installation _ _ h
 
   pub play-waits : (c : Call) (h : Hand W F) → to_player c ≡ true → None ≡ sheet_of h (place_of c h.seat h.at) → Makes side carrying h c NotMade h
   play-waits c h t e l x k =
@@ -527,11 +471,11 @@ module _ {W F : Type 0} (side : W → W → Side) (carrying : F → List Bool) w
       let d = found.0 in
       let inside : place < l.slots = let a = some-within x.plans place d found.1 in let b = k.slots in omega arith in
       let st : d.sheet.start ≡ part (width (length h.plans) h.start) place h.start =
-      sym (ap (λ w. part w place h.start) (ap₂ (λ m n. m / n) k.start.long (slots-are k)) ∙ k.start.part-is place inside
-      ∙ ap (λ (o : Option (DrawnPlan W)). or_kept (option_map (λ (z : DrawnPlan W). z.sheet.start) o) (part (width l.slots l.start) place l.start)) found.1) in
+      rw (k.start.long, slots-are k) (sym (k.start.part-is place inside
+      ∙ ap (λ (o : Option (DrawnPlan W)). or_kept (option_map (λ (z : DrawnPlan W). z.sheet.start) o) (part (width l.slots l.start) place l.start)) found.1)) in
       let en : d.sheet.entries ≡ part (width (length h.plans) h.entries) place h.entries =
-      sym (ap (λ w. part w place h.entries) (ap₂ (λ m n. m / n) k.entries.long (slots-are k)) ∙ k.entries.part-is place inside
-      ∙ ap (λ (o : Option (DrawnPlan W)). or_kept (option_map (λ (z : DrawnPlan W). z.sheet.entries) o) (part (width l.slots l.entries) place l.entries)) found.1) in
+      rw (k.entries.long, slots-are k) (sym (k.entries.part-is place inside
+      ∙ ap (λ (o : Option (DrawnPlan W)). or_kept (option_map (λ (z : DrawnPlan W). z.sheet.entries) o) (part (width l.slots l.entries) place l.entries)) found.1)) in
       let same : d.sheet ≡ s =
       ap (λ (z : Drawn). record { n = z.n; m = z.m; k = z.k; start = d.sheet.start; entries = d.sheet.entries }) found.2
       ∙ ap₂ (λ (u : List ℕ) (v : List (ℕ × ℕ)). record { n = read.0.n; m = read.0.m; k = read.0.k; start = u; entries = v }) st en ∙ read.2 in
@@ -563,7 +507,7 @@ module _ {W F : Type 0} (side : W → W → Side) (carrying : F → List Bool) w
   turns_then (next n t) u = next n (turns_then t u)
 
   run-made : {k i j : Installation W F} (a : Answer) (o : Option (Request W)) → Made side carrying o i a j → Runs side carrying k i → Runs side carrying k j
-  run-made {k} a None m r = subst (λ (z : Installation W F). Runs side carrying k z) (sym m.1) r
+  run-made {k} a None m r = rw m.1 r
   run-made a (Some q) m r = then r m
 
   run-turns : {l : Lent W} {k : Installation W F} {x y : Desk W F} {cs : List Call} {rs : List Answer} → Turns side carrying l x cs rs y
@@ -592,18 +536,12 @@ module _ {W F : Type 0} (side : W → W → Side) (carrying : F → List Bool) w
 
   pub new-waits : (c : Call) → (c ≡ call.Open → ⊥) → (l : Lent W) (f : F) → Turn side carrying l (fresh l f) c NotMade (fresh l f)
   new-waits call.Open o l f = absurd (o refl)
-  new-waits (call.Draw b) o l f = record { made = (refl, refl); plans = refl; at = refl }
   new-waits (call.Lay s) o l f = record {
-    made = subst (λ (o : Option (DrawnPlan W)). Made side carrying (lay_it o) (new f) NotMade (new f)) (sym (none-there l.slots s)) (refl, refl);
+    made = rw (none-there l.slots s) (refl, refl);
     plans = refl;
     at = refl;
   }
-  new-waits call.Forward o l f = record { made = (refl, refl); plans = refl; at = refl }
-  new-waits call.Backward o l f = record { made = (refl, refl); plans = refl; at = refl }
-  new-waits call.Join o l f = record { made = (refl, refl); plans = refl; at = refl }
-  new-waits call.Cancel o l f = record { made = (refl, refl); plans = refl; at = refl }
-  new-waits call.Abandon o l f = record { made = (refl, refl); plans = refl; at = refl }
-  new-waits call.Finish o l f = record { made = (refl, refl); plans = refl; at = refl }
+  new-waits _ o l f = record { made = (refl, refl); plans = refl; at = refl }
 
   pub new-plans : (n : ℕ) → replicate n None ≡ map (option_map (counted {W = W})) (replicate n None)
   new-plans zero = refl
@@ -637,14 +575,14 @@ module _ {W F : Type 0} (side : W → W → Side) (carrying : F → List Bool) w
         ends = he;
         changes = hc;
         work = hw;
-        book = subst (λ (z : Option OpenFault). Booked side l z h.links h.tree o) (sym q) b;
+        book = rw q b;
         slots = length-replicate l.slots None;
         plans = hp ∙ new-plans l.slots;
-        drawn = λ s d e. absurd (let a = none-there l.slots s in let z : ◌≡◌ {A = ℕ} 0 1 = cc in omega arith);
-        start = subst (λ (t : List ℕ). Table l.slots (start_in {W = W} (replicate l.slots None)) l.start t) (sym hs) (new-start l);
-        entries = subst (λ (t : List (ℕ × ℕ)). Table l.slots (entries_in {W = W} (replicate l.slots None)) l.entries t) (sym hen) (new-entries l);
+        drawn = λ s d e. absurd (let a = none-there l.slots s in cc);
+        start = rw hs (new-start l);
+        entries = rw hen (new-entries l);
         at = ha;
-        player = subst (λ (s : Seat). Seated {W = W} s (plan_at (replicate l.slots None) 0) nobody) (sym hse) refl;
+        player = rw hse refl;
         fabric = hf;
       }
 
@@ -685,7 +623,7 @@ module _ {W F : Type 0} (side : W → W → Side) (carrying : F → List Bool) w
       let whole : cs ≡ take at cs ++ call.Open ∷ drop (at + 1) cs =
       sym (take-append-drop at cs) ∙ ap (λ z. take at cs ++ z) (drop_more cs at call.Open in1 ∙ ap (λ z. z ∷ drop (at + 1) cs) e) in (
         r.0,
-        subst (λ (z : List Call). Turns side carrying l (fresh l f) z (rs ++ a ∷ tail) r.0) (sym whole) (turns_then before (next opens.1 r.1)),
+        rw whole (turns_then before (next opens.1 r.1)),
         r.2,
       )
 

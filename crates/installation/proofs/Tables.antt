@@ -86,7 +86,7 @@ table-put slots s written after was now ys h long here others t =
       long = put-long w s now ys fits long ∙ t.long;
       part-is = λ r l.
           elim (apart r s) [
-            | inl e ↦ subst (λ (z : ℕ). part w z (put_mid (s * w) w now ys) ≡ or_kept (after z) (part w z was)) (sym e)
+            | inl e ↦ rw e
                 (put-here w s now ys fits long ∙ sym (ap (λ (o : Option (List _)). or_kept o (part w s was)) here))
             | inr n ↦ elim n [
               | inl b ↦ off r l (λ e. omega arith) (put-before w s now ys fits long r b)

@@ -51,32 +51,21 @@ module _ {W F : Type 0} (side : W → W → Side) (carrying : F → List Bool) w
     made-between e x = subst (λ (p : Player W). Made side carrying (by_player p None None (Some q)) i a j) (sym e) x
 
   -- Any other is not.
-  module _ (i : Installation W F) (o : Option (Request W)) where
-    pub steady-seated : {p : Steady} {t : ℕ} {d : DrawnPlan W} → i.player ≡ steady p t d → Made side carrying (by_player i.player o None None) i NotMade i
-    steady-seated e = subst (λ (p : Player W). Made side carrying (by_player p o None None) i NotMade i) (sym e) (refl, refl)
+  module _ (i : Installation W F) (o q : Option (Request W)) where
+    pub nobody-waits : i.player ≡ nobody → Made side carrying (by_player i.player None o q) i NotMade i
+    nobody-waits e = rw e (refl, refl)
 
-    pub between-seated : {b : Between} {t u : ℕ} {d : DrawnPlan W} → i.player ≡ between b t u d → Made side carrying (by_player i.player o None None) i NotMade i
-    between-seated e = subst (λ (p : Player W). Made side carrying (by_player p o None None) i NotMade i) (sym e) (refl, refl)
+    steady-waits : {p : Steady} {t : ℕ} {d : DrawnPlan W} → i.player ≡ steady p t d → Made side carrying (by_player i.player o None q) i NotMade i
+    steady-waits e = rw e (refl, refl)
 
-    pub nobody-steady : i.player ≡ nobody → Made side carrying (by_player i.player None o None) i NotMade i
-    nobody-steady e = subst (λ (p : Player W). Made side carrying (by_player p None o None) i NotMade i) (sym e) (refl, refl)
-
-    pub between-steady : {b : Between} {t u : ℕ} {d : DrawnPlan W} → i.player ≡ between b t u d → Made side carrying (by_player i.player None o None) i NotMade i
-    between-steady e = subst (λ (p : Player W). Made side carrying (by_player p None o None) i NotMade i) (sym e) (refl, refl)
-
-    pub nobody-between : i.player ≡ nobody → Made side carrying (by_player i.player None None o) i NotMade i
-    nobody-between e = subst (λ (p : Player W). Made side carrying (by_player p None None o) i NotMade i) (sym e) (refl, refl)
-
-    pub steady-between : {p : Steady} {t : ℕ} {d : DrawnPlan W} → i.player ≡ steady p t d → Made side carrying (by_player i.player None None o) i NotMade i
-    steady-between e = subst (λ (p : Player W). Made side carrying (by_player p None None o) i NotMade i) (sym e) (refl, refl)
+    between-waits : {b : Between} {t u : ℕ} {d : DrawnPlan W} → i.player ≡ between b t u d → Made side carrying (by_player i.player o q None) i NotMade i
+    between-waits e = rw e (refl, refl)
 
   module _ (s : Sheet) where
     -- The same of equal seats and answers.
     plays-as : {y y' : Seat} {a a' : Answer} (at : ℕ) (c : Call) (x : Seat) (f f' : F) → (y ≡ y') × (a ≡ a')
         → Plays side carrying s at c a' x f y' f' → Plays side carrying s at c a x f y f'
-    plays-as {y} {y'} {a} {a'} at c x f f' e h =
-        subst (λ (z : Seat). Plays side carrying s at c a x f z f') (sym e.0)
-        (subst (λ (z : Answer). Plays side carrying s at c z x f y' f') (sym e.1) h)
+    plays-as at c x f f' e h = rw (e.0, e.1) h
 
     -- A player's call, with the plan of the slot that it needs.
     abbrev pub Placed : Call → Answer → Seat → F → Seat → F → Type 0
@@ -84,11 +73,7 @@ module _ {W F : Type 0} (side : W → W → Side) (carrying : F → List Bool) w
 
     pub placed : {c c' : Call} {x x' : Seat} {y y' : Seat} {a a' : Answer} {f f' : F} → c ≡ c' → x ≡ x' → (y ≡ y') × (a ≡ a')
         → Placed c' a' x' f y' f' → Placed c a x f y f'
-    placed {c} {c'} {x} {x'} {y} {y'} {a} {a'} {f} {f'} p q e h =
-        subst (λ (z : Call). Placed z a x f y f') (sym p)
-        (subst (λ (z : Seat). Placed c' a z f y f') (sym q)
-        (subst (λ (z : Seat). Placed c' a x' f z f') (sym e.0)
-        (subst (λ (z : Answer). Placed c' z x' f y' f') (sym e.1) h)))
+    placed p q e h = rw (p, q, e.0, e.1) h
 
     -- The call is not made.
     unchanged : {x : Desk W F} {at : ℕ} {seat : Seat} {c : Call} (f : F) → slot_after c NotMade x.at ≡ x.at → PlanHeld s at seat f x
@@ -97,47 +82,34 @@ module _ {W F : Type 0} (side : W → W → Side) (carrying : F → List Bool) w
       book = refl;
       drawn = refl;
       fabric = h.fabric;
-      player = subst (λ (z : ℕ). Seated seat (plan_at x.plans z) x.installation.player) (sym e) h.player;
+      player = rw e h.player;
     }
 
     module _ (f : F) where
       -- A free seat allows lay alone, a steady player forward, backward and finish, one between join, cancel and abandon.
       pub free-waits : (c : Call) → ((to : ℕ) → c ≡ call.Lay to → ⊥) → Placed c NotMade Free f Free f
-      free-waits call.Open other t = absurd (both_ways true (sym t) refl)
-      free-waits (call.Draw b) other t = absurd (both_ways true (sym t) refl)
+      free-waits call.Open other t = absurd (cc)
+      free-waits (call.Draw b) other t = absurd (cc)
       free-waits (call.Lay to) other t = absurd (other to refl)
-      free-waits call.Forward other t = λ at l x h. (x.installation, nobody-steady x.installation (Some forward) h.player, unchanged f refl h)
-      free-waits call.Backward other t = λ at l x h. (x.installation, nobody-steady x.installation (Some backward) h.player, unchanged f refl h)
-      free-waits call.Join other t = λ at l x h. (x.installation, nobody-between x.installation (Some join) h.player, unchanged f refl h)
-      free-waits call.Cancel other t = λ at l x h. (x.installation, nobody-between x.installation (Some cancel) h.player, unchanged f refl h)
-      free-waits call.Abandon other t = λ at l x h. (x.installation, nobody-between x.installation (Some abandon) h.player, unchanged f refl h)
-      free-waits call.Finish other t = λ at l x h. (x.installation, nobody-steady x.installation (Some finish) h.player, unchanged f refl h)
+      free-waits _ other t = λ at l x h. (x.installation, nobody-waits x.installation _ _ h.player, unchanged f refl h)
 
       pub still-waits : (p : Steady) (c : Call) → (c ≡ call.Forward → ⊥) → (c ≡ call.Backward → ⊥) → (c ≡ call.Finish → ⊥)
           → Placed c NotMade (Still p) f (Still p) f
-      still-waits p call.Open n m o t = absurd (both_ways true (sym t) refl)
-      still-waits p (call.Draw b) n m o t = absurd (both_ways true (sym t) refl)
-      still-waits p (call.Lay to) n m o t = λ at l x h.
-          (x.installation, steady-seated x.installation (lay_it (plan_at x.plans to)) h.player.3, unchanged f refl h)
+      still-waits p call.Open n m o t = absurd (cc)
+      still-waits p (call.Draw b) n m o t = absurd (cc)
       still-waits p call.Forward n m o t = absurd (n refl)
       still-waits p call.Backward n m o t = absurd (m refl)
-      still-waits p call.Join n m o t = λ at l x h. (x.installation, steady-between x.installation (Some join) h.player.3, unchanged f refl h)
-      still-waits p call.Cancel n m o t = λ at l x h. (x.installation, steady-between x.installation (Some cancel) h.player.3, unchanged f refl h)
-      still-waits p call.Abandon n m o t = λ at l x h. (x.installation, steady-between x.installation (Some abandon) h.player.3, unchanged f refl h)
       still-waits p call.Finish n m o t = absurd (o refl)
+      still-waits p _ n m o t = λ at l x h. (x.installation, steady-waits x.installation _ _ h.player.3, unchanged f refl h)
 
       pub moving-waits : (b : Between) (c : Call) → (c ≡ call.Join → ⊥) → (c ≡ call.Cancel → ⊥) → (c ≡ call.Abandon → ⊥)
           → Placed c NotMade (Moving b) f (Moving b) f
-      moving-waits b call.Open n m o t = absurd (both_ways true (sym t) refl)
-      moving-waits b (call.Draw d) n m o t = absurd (both_ways true (sym t) refl)
-      moving-waits b (call.Lay to) n m o t = λ at l x h.
-          (x.installation, between-seated x.installation (lay_it (plan_at x.plans to)) h.player.4, unchanged f refl h)
-      moving-waits b call.Forward n m o t = λ at l x h. (x.installation, between-steady x.installation (Some forward) h.player.4, unchanged f refl h)
-      moving-waits b call.Backward n m o t = λ at l x h. (x.installation, between-steady x.installation (Some backward) h.player.4, unchanged f refl h)
+      moving-waits b call.Open n m o t = absurd (cc)
+      moving-waits b (call.Draw d) n m o t = absurd (cc)
       moving-waits b call.Join n m o t = absurd (n refl)
       moving-waits b call.Cancel n m o t = absurd (m refl)
       moving-waits b call.Abandon n m o t = absurd (o refl)
-      moving-waits b call.Finish n m o t = λ at l x h. (x.installation, between-steady x.installation (Some finish) h.player.4, unchanged f refl h)
+      moving-waits b _ n m o t = λ at l x h. (x.installation, between-waits x.installation _ _ h.player.4, unchanged f refl h)
 
     module _ (at : ℕ) (f : F) where
       -- The call ends the player.
@@ -163,17 +135,14 @@ module _ {W F : Type 0} (side : W → W → Side) (carrying : F → List Bool) w
       to-lay : {x : Desk W F} {j : Installation W F} {a : Answer} (h : PlanHeld s at Free f x)
           → Step side carrying x.installation (laying h.plan.sheet) a j
           → Made side carrying (by_player x.installation.player (lay_it (plan_at x.plans at)) None None) x.installation a j
-      to-lay {x} {j} {a} h y =
-          subst (λ (o : Option (DrawnPlan W)). Made side carrying (by_player x.installation.player (lay_it o) None None) x.installation a j)
-          (sym h.there) (made-nobody x.installation h.player y)
+      to-lay {x} {j} {a} h y = rw h.there (made-nobody x.installation h.player y)
 
       -- The call is granted or refused.
       pub laid-plan : (p : Steady) → Lays s (carrying f) (Ok p) (carrying g) → Plays side carrying s at (call.Lay at) Granted Free f (Still p) g
       laid-plan p y l x h = (
         laid x.installation g (steady p 0 h.plan),
         to-lay h (lay-granted h.plan p g h.one h.player
-            (subst (λ (z : Sheet). Lays z (carrying x.installation.fabric) (Ok p) (carrying g)) (sym h.sheet)
-            (subst (λ (z : F). Lays s (carrying z) (Ok p) (carrying g)) (sym h.fabric) y))),
+            (rw (h.sheet, h.fabric) y)),
         record { book = refl; drawn = refl; fabric = refl; player = (0, h.plan, h.there, refl) },
       )
 
@@ -181,8 +150,7 @@ module _ {W F : Type 0} (side : W → W → Side) (carrying : F → List Bool) w
       lay-fails e y l x h = (
         played x.installation g x.installation.player,
         to-lay h (lay-refused h.plan.sheet e g
-            (subst (λ (z : Sheet). Lays z (carrying x.installation.fabric) (Err e) (carrying g)) (sym h.sheet)
-            (subst (λ (z : F). Lays s (carrying z) (Err e) (carrying g)) (sym h.fabric) y))),
+            (rw (h.sheet, h.fabric) y)),
         record { book = refl; drawn = refl; fabric = refl; player = h.player },
       )
 
@@ -208,7 +176,7 @@ module _ {W F : Type 0} (side : W → W → Side) (carrying : F → List Bool) w
             played i g (departed t (t + 1) d r),
             made-steady i e (forwards p t d r g e
                 (subst (λ (z : Sheet). Forwards (rest p) z (carrying i.fabric) r (carrying g)) (own-plan h (h.own refl) d h.player.2)
-                (subst (λ (z : F). Forwards (rest p) s (carrying z) r (carrying g)) (sym h.fabric) y))),
+                (rw h.fabric y))),
             record { book = refl; drawn = refl; fabric = refl; player = gone t (t + 1) d (plan_at x.plans x.at) r h.player.2 },
           ))
 
@@ -222,7 +190,7 @@ module _ {W F : Type 0} (side : W → W → Side) (carrying : F → List Bool) w
             played i g (departed t (t - 1) d r),
             made-steady i e (backwards p t d r g e
                 (subst (λ (z : Sheet). Backwards (rest p) z (carrying i.fabric) r (carrying g)) (own-plan h (h.own refl) d h.player.2)
-                (subst (λ (z : F). Backwards (rest p) s (carrying z) r (carrying g)) (sym h.fabric) y))),
+                (rw h.fabric y))),
             record { book = refl; drawn = refl; fabric = refl; player = gone t (t - 1) d (plan_at x.plans x.at) r h.player.2 },
           ))
 
@@ -235,7 +203,7 @@ module _ {W F : Type 0} (side : W → W → Side) (carrying : F → List Bool) w
           let d = h.player.2 in
           let e = h.player.4 in (
             played i g (arrived_at t u u d r),
-            made-between i e (joins b t u d r g e (subst (λ (z : F). Joins (way b) (carrying z) r (carrying g)) (sym h.fabric) y)),
+            made-between i e (joins b t u d r g e (rw h.fabric y)),
             record { book = refl; drawn = refl; fabric = refl; player = come t u u d (plan_at x.plans x.at) r h.player.3 },
           ))
 
@@ -248,6 +216,6 @@ module _ {W F : Type 0} (side : W → W → Side) (carrying : F → List Bool) w
           let d = h.player.2 in
           let e = h.player.4 in (
             played i g (arrived_at t u t d r),
-            made-between i e (cancels b t u d r g e (subst (λ (z : F). Cancels (way b) (carrying z) r (carrying g)) (sym h.fabric) y)),
+            made-between i e (cancels b t u d r g e (rw h.fabric y)),
             record { book = refl; drawn = refl; fabric = refl; player = come t u t d (plan_at x.plans x.at) r h.player.3 },
           ))

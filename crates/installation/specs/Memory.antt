@@ -1,6 +1,9 @@
--- What stands in the memory that a caller lends.
+-- What stands in the memory that a caller lends, and that it is the same memory afterwards.
 use Rattle.std.specs.Prelude.{◌≡◌, ℕ, length, None, Option, slice_index_or}
 use Rattle.std.specs.Option.{option_map}
+use Rattle.weights.specs.declared.order.Ordered
+use Rattle.weights.specs.declared.weight.Weight
+use Rattle.planner.specs.declared.book.Book.{Book}
 use Rattle.planner.specs.declared.drawn.Drawn.{Drawn}
 use Rattle.player.specs.Plan.{Sheet}
 use Rattle.installation.specs.declared.memory.Memory.{Memory}
@@ -26,3 +29,7 @@ pub record SameTables {W : Type 0} (was now : Memory W) : Type 0 where
   pub start : (now.start.ghost_name ≡ was.start.ghost_name) × (length now.start.now ≡ length was.start.now)
   pub entries : (now.entries.ghost_name ≡ was.entries.ghost_name) × (length now.entries.now ≡ length was.entries.now)
   pub work : (now.work.ghost_name ≡ was.work.ghost_name) × (length now.work.now ≡ length was.work.now)
+
+-- The book is over the tables that it was over.
+abbrev pub SameBook : {W : Type 0} {kind : Weight.Ghosts W} {order : Ordered.Ghosts W} → Book W kind order → Book W kind order → Type 0
+SameBook was now = (now.links.ghost_name ≡ was.links.ghost_name) × (now.tree.ghost_name ≡ was.tree.ghost_name)

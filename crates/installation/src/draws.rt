@@ -1,6 +1,6 @@
 //! Draw, made if the installation allows it.
 ghost use Rattle.std.specs.Prelude.{◌≡◌, length};
-ghost use Rattle.installation.specs.Memory.{SameTables};
+ghost use Rattle.installation.specs.Memory.{SameTables, SameBook};
 ghost use Rattle.installation.specs.Hands.{may_draw, hand, Makes};
 
 use crate::call::{Batch, Call};
@@ -32,7 +32,7 @@ impl<'a, W: Weight> Memory<'a, W> {
         book: &mut Book<W>,
     ) -> Answer
         ensures made { (f : F) → Makes W.Ordered.side F.Fabric.carrying (hand book.old self.old state.now f) (Call.Draw batch) result (hand book.new self.new state.now f) }
-        ensures lent { (book.new.links.ghost_name ≡ book.old.links.ghost_name) × (book.new.tree.ghost_name ≡ book.old.tree.ghost_name) }
+        ensures lent { SameBook book.old book.new }
         ensures held { SameTables self.old self.new }
     {
         if !self.may_draw(batch, state, book) {

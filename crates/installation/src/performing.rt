@@ -1,7 +1,7 @@
 //! Any calls on an installation, made in their order through its book, its player and its fabric.
 ghost use Rattle.std.specs.Prelude.{◌≡◌, ℕ, ◌<◌, length, take, slice_index_or, IfSome, MatchOption};
 ghost use Rattle.promise.specs.Promise.{NeverBroken};
-ghost use Rattle.installation.specs.Memory.{SameTables};
+ghost use Rattle.installation.specs.Memory.{SameTables, SameBook};
 ghost use Rattle.installation.specs.Perform.{Lent, lent, fresh, calls, answers, slot_after, Turns, TurnsRun, Performed};
 ghost use Rattle.installation.specs.Hands.{hand, place_of, Makes, Leads};
 
@@ -49,7 +49,7 @@ fn make<W: Weight, F: Fabric>(
     fabric: &mut F,
 ) -> Next
     ensures made { Makes W.Ordered.side F.Fabric.carrying (hand book.old memory.old state fabric.old) call result.answer (hand book.new memory.new result.state fabric.new) }
-    ensures lent { (book.new.links.ghost_name ≡ book.old.links.ghost_name) × (book.new.tree.ghost_name ≡ book.old.tree.ghost_name) }
+    ensures lent { SameBook book.old book.new }
     ensures held { SameTables memory.old memory.new }
     ensures same { F.Fabric.shape fabric.new ≡ F.Fabric.shape fabric.old }
 {
@@ -93,7 +93,7 @@ pub fn resume<W: Weight, F: Fabric>(
     ensures log { calls log.new ≡ calls log.old }
     ensures never { NeverBroken W.Ordered.side F.Fabric.carrying }
     ensures steps { TurnsRun W.Ordered.side F.Fabric.carrying }
-    ensures lent { (book.new.links.ghost_name ≡ book.old.links.ghost_name) × (book.new.tree.ghost_name ≡ book.old.tree.ghost_name) }
+    ensures lent { SameBook book.old book.new }
     ensures held { SameTables memory.old memory.new }
     ensures same { F.Fabric.shape fabric.new ≡ F.Fabric.shape fabric.old }
 {

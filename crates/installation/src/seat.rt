@@ -26,16 +26,16 @@ impl Seat {
 impl From<Steady> for Seat {
     ghost from_gives = { λ p s. s ≡ Still p };
 
-    fn from(player: Steady) -> Seat {
-        Seat::Still(player)
+    fn from(steady: Steady) -> Seat {
+        Seat::Still(steady)
     }
 }
 
 impl From<Between> for Seat {
     ghost from_gives = { λ b s. s ≡ Moving b };
 
-    fn from(player: Between) -> Seat {
-        Seat::Moving(player)
+    fn from(between: Between) -> Seat {
+        Seat::Moving(between)
     }
 }
 

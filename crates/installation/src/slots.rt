@@ -1,6 +1,8 @@
 //! Slots for drawn plans. The start list and the entry table are each cut into as many equal parts as there are slots.
 ghost use Rattle.std.specs.Prelude.{◌≡◌, ◌+◌, ◌*◌, ◌/◌, ◌<◌, ◌≤◌};
 
+// Without a heap a slot has no tables of its own: its plan lies in its parts of two lent ones.
+
 /// From where to where a slot's part of a table goes.
 pub(crate) fn part_of(slot: usize, slots: usize, len: usize) -> (usize, usize)
     requires { slot < slots }

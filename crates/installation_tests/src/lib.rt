@@ -25,6 +25,7 @@ mod tests {
         }
     }
 
+    // Numbers, so that a log's expected answers stand in one line.
     // What an answer says in short: the code of a refusal, 0 for a call that was not made, 1 for a granted one, 100 and the
     // work count for a draw, 1000 and the moment for finish.
     fn short(answer: Answer) -> u64 {

@@ -136,13 +136,11 @@ fn calls_of(heap: Global, k: usize) -> Result<Vec<Call>, AllocError> {
         slot: 0,
     }))?;
     calls.push(Call::Lay(0))?;
-    for _ in 0..k {
-        calls.push(Call::Forward)?;
-        calls.push(Call::Join)?;
-    }
-    for _ in 0..k {
-        calls.push(Call::Backward)?;
-        calls.push(Call::Join)?;
+    for way in [Call::Forward, Call::Backward] {
+        for _ in 0..k {
+            calls.push(way)?;
+            calls.push(Call::Join)?;
+        }
     }
     calls.push(Call::Finish)?;
     Ok(calls)

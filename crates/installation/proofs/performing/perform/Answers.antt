@@ -98,7 +98,7 @@ returns-clause-run g c =
     ap answers (log-joined (at + 1) long written q.log (omega arith)) ∙ answers-joined at log q.log a in2 ∙ ap (λ v. take at (answers log) ++ v ∷ answers q.log) a-is in
     let z = c.close.ensures in (
       x.0,
-      subst (λ (v : List Answer). Turns side carrying l (fresh l f) cs v x.0) (sym told) x.1,
+      rw told x.1,
       record {
         nodes = z.nodes ∙ y.nodes;
         ends = z.ends ∙ y.ends;

@@ -38,7 +38,7 @@ loop-line-preserved g c =
     let x = leads-on side carrying from m k (take i (calls old)) (take i (answers log)) (get_or log i blank).call r.answer l.invariant.run e.made in
     record {
       run = subst (λ (z : List Call). Leads side carrying from z (take (i + 1) (answers (noted log i r.answer))) k) (calls-on log old i h l.invariant.log)
-          (subst (λ (z : List Answer). Leads side carrying from (take i (calls old) ++ (get_or log i blank).call ∷ []) z k) (sym (answers-noted log i r.answer h)) x);
+          (rw (answers-noted log i r.answer h) x);
       log = calls-noted log i r.answer h ∙ l.invariant.log;
       lent = (e.lent.0 ∙ l.invariant.lent.0, e.lent.1 ∙ l.invariant.lent.1);
       held = kept-then l.invariant.held e.held;

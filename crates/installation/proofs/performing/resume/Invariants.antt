@@ -1,5 +1,5 @@
 use Rattle.std.proofs.Common.{◌≡◌, take}
-use Rattle.installation.specs.Memory.{SameTables}
+use Rattle.installation.specs.Memory.{SameTables, SameBook}
 use Rattle.installation.specs.Perform.{calls, answers}
 use Rattle.installation.specs.Hands.{hand, Leads}
 use Rattle.installation.proofs.performing.resume.Given as goal
@@ -9,7 +9,7 @@ invariant-loop-line g l = record {
   run : Leads g.W.Ordered.side g.F.Fabric.carrying (hand l.initial.book l.initial.memory l.initial.state l.initial.fabric)
       (take l.line-index (calls l.initial.log)) (take l.line-index (answers l.log)) (hand l.book l.memory l.state l.fabric);
   log : calls l.log ≡ calls l.initial.log;
-  lent : (l.book.links.ghost_name ≡ l.initial.book.links.ghost_name) × (l.book.tree.ghost_name ≡ l.initial.book.tree.ghost_name);
+  lent : SameBook l.initial.book l.book;
   held : SameTables l.initial.memory l.memory;
   same : g.F.Fabric.shape l.fabric ≡ g.F.Fabric.shape l.initial.fabric;
 }

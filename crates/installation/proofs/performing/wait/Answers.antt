@@ -25,7 +25,7 @@ loop-i-preserved g c =
       λ t f.
           let x = turns-on side carrying (get_or log i blank).call NotMade (c.loop-i.invariant.1 t f) (new-waits side carrying (get_or log i blank).call c.in_default.not-Open t f) in
           subst (λ (z : List Call). Turns side carrying t (fresh t f) z (take (i + 1) (answers (noted log i NotMade))) (fresh t f)) (calls-on log old i h e)
-          (subst (λ (z : List Answer). Turns side carrying t (fresh t f) (take i (calls old) ++ (get_or log i blank).call ∷ []) z (fresh t f)) (sym (answers-noted log i NotMade h)) x),
+          (rw (answers-noted log i NotMade h) x),
     )
 
 pub returns-clause-run : goal.returns-clause-run
