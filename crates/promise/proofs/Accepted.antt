@@ -1,23 +1,18 @@
 -- Networks that can be opened, and that batches keep so.
-use Rattle.std.proofs.Common.{◌≡◌, ℕ, zero, suc, ◌≤◌, true, cond, eqb, ltb, List, [], ◌∷◌, length, take, Some, None, arith}
+use Rattle.std.proofs.Common.{◌≡◌, ℕ, zero, suc, ◌≤◌, true, List, [], ◌∷◌, length, take, None, arith}
 use Rattle.std.proofs.lemmas.List.{take_all}
 use Rattle.std.proofs.lemmas.Bool.{cond_both}
 use Rattle.std.proofs.lemmas.Bool.Decides.{nat_tests}
-use Rattle.faults.specs.declared.OpenFault.TheVariants.{NotJoined}
-use Rattle.faults.specs.declared.DrawFault.TheVariants.{ChangeCount, ShortTables, Parted}
 use Rattle.network.specs.declared.types.Ends.{Ends}
 use Rattle.network.specs.declared.types.LinkState.{LinkState}
 use Rattle.network.specs.declared.types.Change.{Change}
-use Rattle.network.specs.Ends.{or_else}
 use Rattle.graphs.specs.Spanning.{Within, AllJoined, all_joined}
 use Rattle.graphs.proofs.Trees.{all-joined}
 use Rattle.plans.specs.Network.{graph_of, present_links, changed, changed_by, parted_from, parted_at}
 use Rattle.plans.proofs.Standings.{faultless-within}
 use Rattle.planner.specs.Open.{tables_fault, open_fault, joined}
-use Rattle.planner.specs.Draw.{changes_fault, parted_fault, too_short, draw_fault}
-use Rattle.places.proofs.Refusals.{cond-none, or_else-none}
+use Rattle.planner.specs.Draw.{draw_fault}
 use Rattle.drawing.proofs.Fits.{fits}
-use Rattle.player.proofs.Nones.{cond-pass}
 use Rattle.promise.specs.Installation.{Network, after}
 use Rattle.promise.specs.Promise.{present}
 
@@ -28,10 +23,10 @@ pub record Accepted {W : Type 0} (g : Network W) : Type 0 where
 
 pub open-accepts : {W : Type 0} (g : Network W) (t w : ℕ) → open_fault g.n g.ends g.links t w ≡ None → Accepted g
 open-accepts g t w e =
-    let r = or_else-none (tables_fault g.n g.ends (length g.links) t w) (cond (joined g.n g.ends g.links) None (Some NotJoined)) e in
-    let f = fits g.n g.ends (length g.links) t w r.0 in
-    let j = cond-pass (joined g.n g.ends g.links) NotJoined None r.1 in
-    record { some = f.some; within = faultless-within g.n 1 g.ends f.ends; all = (all-joined g.n (present g) f.some).0 j.0 }
+    let r : tables_fault g.n g.ends (length g.links) t w ≡ None = grind arith in
+    let j : joined g.n g.ends g.links ≡ true = grind arith in
+    let f = fits g.n g.ends (length g.links) t w r in
+    record { some = f.some; within = faultless-within g.n 1 g.ends f.ends; all = (all-joined g.n (present g) f.some).0 j }
 
 -- Where no change parts the network, it is joined at each moment.
 never-parted : {W : Type 0} (k n : ℕ) (ends : List Ends) (links : List (LinkState W)) (batch : List (Change W)) → 1 ≤ k
@@ -49,13 +44,7 @@ never-parted k n ends links (c ∷ cs) some e j (suc t) =
 pub draw-accepts : {W : Type 0} (g : Network W) → Accepted g → (batch : List (Change W)) (s e w : ℕ)
     → draw_fault None g.n g.ends g.links batch s e w ≡ None → (t : ℕ) → Accepted (after g (take t batch))
 draw-accepts g a batch s e w h t =
-    let last = or_else (changes_fault 1 g.links batch) (parted_fault (parted_at g.n g.ends g.links batch)) in
-    let p = cond-none (ltb 65536 (length batch)) ChangeCount (cond (too_short g.n (length g.ends) (length batch) s e w) (Some ShortTables) last) h in
-    let q = cond-none (too_short g.n (length g.ends) (length batch) s e w) ShortTables last p.1 in
-    let r = or_else-none (changes_fault 1 g.links batch) (parted_fault (parted_at g.n g.ends g.links batch)) q.1 in
-    let z : parted_at g.n g.ends g.links batch ≡ 0 =
-    let u = (cond-pass (eqb (parted_at g.n g.ends g.links batch) 0) (Parted (parted_at g.n g.ends g.links batch)) None r.1).0 in
-    grind (arith, nat_tests) in
+    let z : parted_at g.n g.ends g.links batch ≡ 0 = grind (arith, nat_tests) in
     record {
       some = a.some;
       within = a.within;
