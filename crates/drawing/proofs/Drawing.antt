@@ -23,7 +23,7 @@ use Rattle.plans.specs.Theorems.{SamePlan, Absentees}
 use Rattle.plans.specs.Work.{work}
 use Rattle.plans.proofs.Faithful.{same-order}
 use Rattle.plans.proofs.Present.{absentees}
-use Rattle.leaves.specs.Words.{entries_in}
+use Rattle.block_records.specs.Words.{entries_in}
 use Rattle.plans.proofs.Standings.{faultless-within}
 use Rattle.places.specs.Changes.{changes_fault}
 use Rattle.drawing.specs.Answer.{parted_fault, unless}
@@ -48,7 +48,7 @@ same-movers links (c ∷ cs) (p ∷ ps) n = ap (λ (l : List ℕ). link_of c ∷
 
 -- An answer and a table of entries that are those of the definitions.
 pub record Planned {W : Type 0} (side : W → W → Side) (n : ℕ) (ends : List Ends) (links : List (LinkState W)) (batch : List (Change W))
-    (r : Result ℕ DrawFault) (out : List ℕ) : Type 0 where
+    (r : Result ℕ DrawFault) (out : List (List ℕ)) : Type 0 where
   pub answer : r ≡ unless (or_else (changes_fault 1 links batch) (parted_fault (parted_at n ends links batch))) (work_count side n ends links batch)
   pub entries : IfOk r (λ _. entries_in out ≡ plan side ends links batch)
 
@@ -60,23 +60,22 @@ module _ {W : Type 0} (side : W → W → Side) (laws : Sided side) (n : ℕ) (e
     ≡ stand side (get_or (sourced links batch sources) i Absent) (get_or (sourced links batch sources) j Absent))
     (split : places ≡ own ++ targets) (front : length own ≡ length links) (back : length targets ≡ length batch + 1) where
   abbrev ps : List ℕ
-  ps = take (length batch - 0) targets
+  ps = take (length batch) targets
 
   abbrev moves : List (Move ℕ)
   moves = place_moves batch ps
 
   pub targets-length : length ps ≡ length batch
-  targets-length = let z : length batch - 0 ≡ length batch = omega arith in ap (λ k. length (take k targets)) z ∙ length-take-le (length batch) targets (omega arith)
+  targets-length = length-take-le (length batch) targets (omega arith)
 
   pool-read : (i : ℕ) → i < length links + length batch → get_or (pool own moves) i 0 ≡ get_or places i 0
   pool-read i l =
-      let z : length batch - 0 ≡ length batch = omega arith in
       let e = ap (λ (t : List ℕ). get_or (own ++ t) i 0) (moves-to batch ps targets-length) in
       let p = ap (λ (t : List ℕ). get_or t i 0) split in
       elim (cases_lt i (length own)) [
         | inl h ↦ e ∙ get_or_append_left own ps 0 i h ∙ sym (get_or_append_left own targets 0 i h) ∙ sym p
         | inr h ↦
-            e ∙ get_or-append_right own ps (length own) i 0 refl h ∙ get_or-take (length batch - 0) targets (i - length own) 0 (omega arith)
+            e ∙ get_or-append_right own ps (length own) i 0 refl h ∙ get_or-take (length batch) targets (i - length own) 0 (omega arith)
             ∙ sym (get_or-append_right own targets (length own) i 0 refl h) ∙ sym p
       ]
 
@@ -118,7 +117,7 @@ module _ {W : Type 0} (side : W → W → Side) (laws : Sided side) (n : ℕ) (e
   same-parted = ap (λ (t : ℕ). cond (ltb t (length batch)) (1 + t) 0) (same.tear _ absent-at) ∙ sym (absences.parted batch)
 
   -- What the recursion told is what the definitions say.
-  pub told-plan : (r : Result ℕ DrawFault) (out : List ℕ) → None ≡ changes_fault 1 links batch
+  pub told-plan : (r : Result ℕ DrawFault) (out : List (List ℕ)) → None ≡ changes_fault 1 links batch
       → (let T = first_tear (get_or targets (length batch) 0) own (graph_of ends) moves in
       r ≡ unless (parted_fault (cond (ltb T (length batch)) (1 + T) 0)) (work own (record { nodes = n; links = graph_of ends }) moves))
       → entries_in out ≡ entries own (graph_of ends) moves → Planned side n ends links batch r out

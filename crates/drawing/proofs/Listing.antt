@@ -1,22 +1,15 @@
 -- The numbers of links, sorted.
-use Rattle.std.proofs.Common.{◌≡◌, ℕ, ◌+◌, ◌/◌, ◌<◌, ◌≤◌, cond, ltb, List, [], ◌∷◌, ◌++◌, map, length, get_or, take, set, sym, refl, ap, ◌∙◌, arith}
-use Rattle.std.specs.List.Sorted.{IsPermutation}
-use Rattle.std.specs.Cmp.{IsStrictWeakOrder}
-use Rattle.std.proofs.lemmas.List.{take_more, take_more_set, take_all, map-append, get_or-map, get_or-take, length-take-le}
-use Rattle.std.proofs.lemmas.Bool.{cond_both}
+use Rattle.std.proofs.Common.{◌≡◌, ℕ, cond, ltb, List, [], ◌∷◌, map, length, sym, refl, ap, ◌∙◌, arith}
+use Rattle.std.specs.List.Sorted.{IsPermutation, IsNonDecreasing}
+use Rattle.std.proofs.lemmas.Bool.{cond_both, le-ltb}
 use Rattle.std.proofs.lemmas.Bool.Decides.{nat_tests}
 use Rattle.block_records.specs.declared.Link.{Link}
 use Rattle.graphs.specs.Graph.{In, here, later}
 use Rattle.graphs.specs.Forest.{Distinct, placed, ordered}
 use Rattle.graphs.proofs.Orders.{strict-ltb}
 use Rattle.plans.specs.Plan.{numbers, inserted}
-use Rattle.forests.specs.Heap.{at, Sorted}
-use Rattle.forests.specs.Words.{link, no_link, link_in, links_in}
-use Rattle.forests.proofs.Packed.{length-links, links-at}
+use Rattle.block_records.specs.Words.{link, link_of, links_in}
 use Rattle.forests.proofs.InOrder.{positions-ordered}
-
-pub ranks-ltb : IsStrictWeakOrder ltb
-ranks-ltb = record { one_way = λ i j h. grind (arith, nat_tests); chain = λ i j k h l. grind (arith, nat_tests) }
 
 abbrev number : Link → ℕ
 number e = e.number
@@ -60,32 +53,16 @@ bare-distinct : (es : List Link) → Distinct es → Distinct (map bare (map num
 bare-distinct [] d = tt
 bare-distinct (e ∷ es) d = (λ f i q. let r = bare-in es i in d.0 r.0 r.1 (q ∙ r.2), bare-distinct es d.1)
 
--- The numbers of links, shuffled into order, are their numbers ascending.
-pub numbers-sorted : (es : List Link) (xs os : List ℕ) → Distinct es → xs ≡ map number es → IsPermutation xs os → Sorted ltb (at os) 0 (length xs) → os ≡ numbers es
+-- The numbers of a table's links, sorted, are their numbers ascending.
+listed : (t : List (List ℕ)) → map (λ w. (link_of w).number) t ≡ map number (links_in t)
+listed [] = refl
+listed (w ∷ t) = ap (λ (l : List ℕ). (link_of w).number ∷ l) (listed t)
+
+pub numbers-sorted : (t : List (List ℕ)) (xs os : List ℕ) → Distinct (links_in t) → xs ≡ map (λ w. (link_of w).number) t → IsPermutation xs os → length os ≡ length xs
+    → IsNonDecreasing os → os ≡ numbers (links_in t)
 unfolding numbers
-numbers-sorted es xs os d e s h =
-    let q = positions-ordered ltb strict-ltb bare xs os (rw e (bare-distinct es d)) s h in
-    sym (bare-back os) ∙ ap (map number) q ∙ numbers-same (map bare xs) es (bare-back xs ∙ e)
-
--- One more number is listed; all are.
-pub listed_more : (es : List Link) (out : List ℕ) (j : ℕ) (d : Link) → j < length es → j < length out
-    → take j out ≡ map number (take j es) → take (j + 1) (set out j (get_or es j d).number) ≡ map number (take (j + 1) es)
-listed_more es out j d l m h =
-    take_more_set out j (get_or es j d).number m ∙ ap (λ (x : List ℕ). x ++ (get_or es j d).number ∷ []) h
-    ∙ sym (map-append number (take j es) (get_or es j d ∷ [])) ∙ ap (map number) (sym (take_more es j d l))
-
-pub listed-all : (es : List Link) (out : List ℕ) (j : ℕ) → length out ≤ j → j ≤ length out → take j out ≡ map number (take j es) → out ≡ map number (take (length out) es)
-listed-all es out j l m h =
-    let e : j ≡ length out = omega arith in
-    sym (take_all j out l) ∙ h ∙ ap (λ (r : ℕ). map number (take r es)) e
-
--- What is listed is as small as the links' numbers.
-pub listed_small : (ws out : List ℕ) (b : ℕ) → length out ≤ length ws / 3 → out ≡ map number (take (length out) (links_in ws))
-    → ((j : ℕ) → j < length out → (link_in ws j).number < b) → (k : ℕ) → k < length out → get_or out k 0 < b
-listed_small ws out b room e small k l =
-    let n = length-links ws in
-    let t : length (take (length out) (links_in ws)) ≡ length out = length-take-le (length out) (links_in ws) (omega arith) in
-    let q : get_or out k 0 ≡ (link_in ws k).number =
-    ap (λ (x : List ℕ). get_or x k 0) e ∙ get_or-map number (take (length out) (links_in ws)) k no_link 0 (omega arith)
-    ∙ ap number (get_or-take (length out) (links_in ws) k no_link l ∙ links-at ws k no_link (omega arith)) in
-    omega (arith, q, small k l)
+numbers-sorted t xs os d e s n h =
+    let es : List Link = links_in t in
+    let f : xs ≡ map number es = e ∙ listed t in
+    let q = positions-ordered ltb strict-ltb bare xs os (rw f (bare-distinct es d)) s (λ i j l z k. le-ltb _ _ (h i j 0 l (omega arith))) in
+    sym (bare-back os) ∙ ap (map number) q ∙ numbers-same (map bare xs) es (bare-back xs ∙ f)

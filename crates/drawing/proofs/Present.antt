@@ -1,6 +1,6 @@
 -- The present links, listed by index, are those of the network's graph.
-use Rattle.std.proofs.Common.{◌≡◌, ℕ, zero, suc, ◌+◌, ◌-◌, ◌*◌, ◌<◌, ◌≤◌, Bool, true, false, List, [], ◌∷◌, ◌++◌, map, length, get_or, take, drop, sym, refl, ap, ◌∙◌, subst, ap₂, inl, inr, add-one, arith, length-drop}
-use Rattle.std.proofs.lemmas.List.{get_or-map, drop_more, take_all, take-append-le, length-append, length-take-le}
+use Rattle.std.proofs.Common.{◌≡◌, ℕ, zero, suc, ◌+◌, ◌<◌, ◌≤◌, Bool, true, false, List, [], ◌∷◌, ◌++◌, map, length, get_or, take, drop, sym, refl, ap, ◌∙◌, subst, ap₂, inl, inr, add-one, arith, length-drop}
+use Rattle.std.proofs.lemmas.List.{get_or-map, drop_more, take_all, take-append-le, length-map, map-append}
 use Rattle.std.proofs.lemmas.Bool.{cases_Bool, cond_both, cond-true, cond-false}
 use Rattle.weights.specs.declared.standing.Standing.{Standing}
 use Rattle.weights.specs.declared.standing.Standing.TheVariants.{Absent}
@@ -13,10 +13,9 @@ use Rattle.graphs.proofs.Lists.{filtered-sub, filtered-distinct, ordered-in}
 use Rattle.plans.specs.Places.{value_of}
 use Rattle.plans.specs.Network.{graph_from, graph_of, is_at, standing_if, standing_of, standing_at, present_links}
 use Rattle.plans.proofs.Standings.{graph-distinct}
-use Rattle.forests.specs.Words.{links_in}
+use Rattle.block_records.specs.Words.{link_of, links_in}
 use Rattle.forests.specs.Union.{Ends as EndsBelow}
 use Rattle.forests.proofs.InOrder.{in-get_or}
-use Rattle.forests.proofs.Packed.{links-take}
 use Rattle.drawing.specs.Tree.{no_ends, present_indexes, link_at, EndsUnder}
 
 is-present : {W : Type 0} (b : Bool) (w : W) → is_at (standing_if b w) ≡ b
@@ -106,30 +105,19 @@ module _ {W : Type 0} (ends : List Ends) (links : List (LinkState W)) where
   pub ordered-between : (lt : ℕ → ℕ → Bool) (n : ℕ) → EndsUnder n ends → (e : Link) → In e (ordered lt (present_links links (graph_of ends))) → (e.a.0 < n) × (e.b.0 < n)
   ordered-between lt n b e i = graph-between n 1 ends b e (filtered-sub _ (graph_of ends) e (ordered-in lt (present_links links (graph_of ends)) e i))
 
--- The first links of a table are those of its front.
-pub front-links : (xs ys : List ℕ) (r : ℕ) → r * 3 ≤ length xs → take r (links_in (xs ++ ys)) ≡ take r (links_in xs)
-front-links xs ys r l =
-    let m : r * 3 ≤ length (xs ++ ys) = omega (arith, length-append xs ys) in
-    sym (links-take (xs ++ ys) r m) ∙ ap links_in (take-append-le (r * 3) xs ys l) ∙ links-take xs r l
+-- What is lent of a table's front and given back is that front, and the first links of the table are those of its front.
+pub lent-front : {X : Type 0} (q : ℕ) (xs ys : List X) → length xs ≡ q → take q (xs ++ ys) ≡ xs
+lent-front q xs ys n = take-append-le q xs ys (omega arith) ∙ take_all q xs (omega arith)
 
--- What is lent of a table's front and given back is that front.
-pub lent-front : (q : ℕ) (xs ys : List ℕ) → length xs ≡ q → take (q - 0) (xs ++ ys) ≡ xs
-lent-front q xs ys n =
-    let z : q - 0 ≡ length xs = omega arith in
-    ap (λ k. take k (xs ++ ys)) z ∙ take-append-le (length xs) xs ys (omega arith) ∙ take_all (length xs) xs (omega arith)
-
-pub lent_length : (q : ℕ) (xs : List ℕ) → q ≤ length xs → length (take (q - 0) xs) ≡ q
-lent_length q xs l = let z : q - 0 ≡ q = omega arith in ap (λ k. length (take k xs)) z ∙ length-take-le q xs l
-
-pub lent_same : (q : ℕ) (xs : List ℕ) → take (q - 0) xs ≡ take q xs
-lent_same q xs = let z : q - 0 ≡ q = omega arith in ap (λ k. take k xs) z
+pub front-links : (t u : List (List ℕ)) (r : ℕ) → r ≤ length t → take r (links_in (t ++ u)) ≡ take r (links_in t)
+front-links t u r l = ap (take r) (map-append link_of t u) ∙ take-append-le r (links_in t) (links_in u) (omega (arith, length-map t link_of))
 
 -- Present indexes put into order and written out are the present links in order.
-pub present-ordered : {W : Type 0} (ends : List Ends) (links : List (LinkState W)) (lt : ℕ → ℕ → Bool) (p : ℕ) (order out : List ℕ)
-    → length links ≡ length ends → take p order ≡ present_indexes 0 links → links_in out ≡ ordered lt (map (link_at ends) (take (p - 0) order))
+pub present-ordered : {W : Type 0} (ends : List Ends) (links : List (LinkState W)) (lt : ℕ → ℕ → Bool) (p : ℕ) (order : List ℕ) (out : List (List ℕ))
+    → length links ≡ length ends → take p order ≡ present_indexes 0 links → links_in out ≡ ordered lt (map (link_at ends) (take p order))
     → links_in out ≡ ordered lt (present_links links (graph_of ends))
 present-ordered ends links lt p order out n e s =
-    s ∙ ap (λ xs. ordered lt (map (link_at ends) xs)) (lent_same p order ∙ e) ∙ ap (ordered lt) (present-listed ends links n)
+    s ∙ ap (λ xs. ordered lt (map (link_at ends) xs)) e ∙ ap (ordered lt) (present-listed ends links n)
 
 pub ordered-ends : {W : Type 0} (ends : List Ends) (links : List (LinkState W)) (lt : ℕ → ℕ → Bool) (n : ℕ) (es : List Link)
     → es ≡ ordered lt (present_links links (graph_of ends)) → EndsUnder n ends → EndsBelow n es

@@ -1,8 +1,6 @@
 -- The order of links by standing and number, as it is read off a table.
-use Rattle.std.proofs.Common.{◌≡◌, ℕ, suc, ◌<◌, Bool, true, false, ◌&&◌, ◌||◌, ltb, List, length, get_or, sym, refl, ap, ◌∙◌, inl, inr, arith}
-use Rattle.std.specs.Cmp.{IsStrictWeakOrder}
+use Rattle.std.proofs.Common.{◌≡◌, ℕ, suc, ◌<◌, Bool, true, false, ◌&&◌, ◌||◌, ltb, List, length, get_or, sym, refl, ap, ◌∙◌, arith}
 use Rattle.std.proofs.lemmas.List.{get_or-map}
-use Rattle.std.proofs.lemmas.Bool.{cases_Bool, both_ways}
 use Rattle.std.proofs.lemmas.Bool.Decides.{nat_tests}
 use Rattle.weights.specs.declared.order.Side.{Side}
 use Rattle.weights.specs.declared.order.Side.TheVariants.{Before, Level, After}
@@ -10,11 +8,8 @@ use Rattle.weights.specs.declared.standing.Standing.{Standing}
 use Rattle.weights.specs.declared.standing.Standing.TheVariants.{Absent}
 use Rattle.weights.specs.Order.{stand}
 use Rattle.network.specs.declared.types.LinkState.{LinkState}
-use Rattle.graphs.specs.Forest.{Strict}
 use Rattle.plans.specs.Places.{value_of}
-use Rattle.plans.specs.Network.{Sided, is_before, is_level, standing_of, standings, by_standing, link_before}
-use Rattle.plans.proofs.Orders.{strict-by}
-use Rattle.plans.proofs.Standings.{lawful-standing}
+use Rattle.plans.specs.Network.{is_before, is_level, standing_of, standings, link_before}
 
 -- What a comparison says of the order, where level ones go by number.
 abbrev pub says : Side → Bool → Bool
@@ -49,31 +44,3 @@ pub before-told : {W : Type 0} (side : W → W → Side) (links : List (LinkStat
 before-told {W} side links i j x y hi hj u v s t eu ev es et =
     ap (λ r. says r (ltb i j)) (sym et ∙ es ∙ ap (λ (z : Standing W). stand side z v) eu ∙ ap (λ (z : Standing W). stand side (standing_of (get_or links i x)) z) ev)
     ∙ sym (before-read side links i j x y hi hj)
-
--- A strict total order ranks.
-pub ranks-strict : (lt : ℕ → ℕ → Bool) → Strict lt → IsStrictWeakOrder lt
-ranks-strict lt o = record {
-  one_way = λ i j h. elim (cases_Bool (lt j i)) [
-    | inr n ↦ n
-    | inl t ↦ absurd (both_ways (lt i i) (o.apart i) (o.chain i j i h t))
-  ];
-  chain = λ i j k h l. elim (cases_Bool (lt i k)) [
-    | inr n ↦ n
-    | inl t ↦ elim (o.total i j) [
-      | inl y ↦ absurd (both_ways (lt i j) h y)
-      | inr (inl e) ↦ absurd (both_ways (lt j k) l (rw e at t))
-      | inr (inr y) ↦ absurd (both_ways (lt j k) l (o.chain j i k y t))
-    ]
-  ];
-}
-
--- So does one of the numbers one higher.
-pub ranks-suc : (lt : ℕ → ℕ → Bool) → IsStrictWeakOrder lt → IsStrictWeakOrder (λ i j. lt (suc i) (suc j))
-ranks-suc lt r = record {
-  one_way = λ i j h. r.one_way (suc i) (suc j) h;
-  chain = λ i j k h l. r.chain (suc i) (suc j) (suc k) h l;
-}
-
--- The order of links is a strict total one.
-pub strict-links : {W : Type 0} (side : W → W → Side) → Sided side → (links : List (LinkState W)) → Strict (link_before side links)
-strict-links side laws links = strict-by (by_standing side) (lawful-standing side laws) (standings links)

@@ -1,3 +1,4 @@
 pub mod Tables
 pub mod Tree
 pub mod Answer
+pub mod Ranks

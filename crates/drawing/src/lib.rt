@@ -4,8 +4,8 @@
 mod entries;
 mod plan;
 mod ranks;
+mod sound;
 mod tree;
 
 pub use entries::copy_entries;
-pub use plan::draw_plan;
-pub use tree::least_tree;
+pub use sound::Network;

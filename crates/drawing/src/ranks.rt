@@ -1,6 +1,7 @@
-//! The order of a network's links, and the order of numbers, as rankings.
+//! The order of a network's links as a ranking.
 ghost use Rattle.std.specs.Prelude.{◌≡◌, ℕ, suc, ◌^◌, Bool, length, nat_lt};
 ghost use Rattle.plans.specs.Network.{link_before, standing_of};
+ghost use Rattle.drawing.specs.Ranks.{ranks-links};
 
 use forests::Ranking;
 use network::LinkState;
@@ -37,18 +38,6 @@ impl<W: Ordered> Ranking for ByStanding<'_, W> {
             Side::After => false,
         }
     }
-}
 
-/// Numbers, smaller first.
-#[derive(Drop)]
-pub struct ByNumber;
-
-impl Ranking for ByNumber {
-    ghost count = { λ _. 2 ^ 32 };
-
-    ghost before = { λ _. nat_lt };
-
-    fn precedes(&self, i: u32, j: u32) -> bool {
-        i < j
-    }
+    ghost ranks = { λ r. ranks-links W.Ordered.side (record { level = W.Ordered.level; mirrored = W.Ordered.mirrored; back = W.Ordered.back; passes = W.Ordered.passes }) r.links.now };
 }

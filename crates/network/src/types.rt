@@ -12,7 +12,7 @@ pub struct Ends {
 }
 
 /// A link's weight and state. An absent link keeps its weight.
-#[derive(Clone, Copy)]
+#[derive(Clone, Copy, PartialEq, Eq, Debug)]
 pub struct LinkState<W> {
     pub weight: W,
     pub present: bool,
@@ -20,7 +20,7 @@ pub struct LinkState<W> {
 
 /// A change of one link, named by its number: set gives it a weight and makes it present, remove makes it absent, flip
 /// changes its state and keeps its weight.
-#[derive(Clone, Copy)]
+#[derive(Clone, Copy, PartialEq, Eq, Debug)]
 pub enum Change<W> {
     Set(u32, W),
     Remove(u32),

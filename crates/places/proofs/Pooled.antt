@@ -1,8 +1,6 @@
 -- The standings of a pool rank, and the places that are given to them are faithful to them.
-use Rattle.std.proofs.Common.{◌≡◌, ℕ, ◌+◌, ◌<◌, ◌||◌, ltb, leb, List, [], ◌∷◌, ◌++◌, map, length, get_or, refl, ap, ◌∙◌, ap₂, inl, inr, arith}
-use Rattle.std.specs.Cmp.{IsStrictWeakOrder}
+use Rattle.std.proofs.Common.{◌≡◌, ℕ, ◌+◌, ◌<◌, ltb, leb, List, [], ◌∷◌, ◌++◌, map, length, get_or, refl, ap, ◌∙◌, ap₂, arith}
 use Rattle.std.proofs.lemmas.List.{length-map, length-append, length_push, get_or_append_left, get_or_push}
-use Rattle.std.proofs.lemmas.Bool.{cases_Bool, both_ways, or_from}
 use Rattle.std.proofs.lemmas.Bool.Decides.{nat_tests}
 use Rattle.weights.specs.declared.order.Side.{Side}
 use Rattle.weights.specs.declared.order.Side.TheVariants.{Before, Level, After}
@@ -14,23 +12,10 @@ use Rattle.network.specs.declared.types.Change.{Change}
 use Rattle.block_records.specs.declared.Move.{Move}
 use Rattle.plans.specs.Network.{Sided, is_before, is_absent, standings, moves_of}
 use Rattle.plans.specs.Same.{pool, movers, Faithful, AbsentAt}
-use Rattle.plans.proofs.Standings.{sided-stand, lawful-standing, standings-length, moves-length}
+use Rattle.plans.proofs.Standings.{sided-stand, standings-length, moves-length}
 use Rattle.places.specs.Pool.{stands_before, told_by, weights_of, sourced}
 
 module _ {W : Type 0} (side : W → W → Side) (laws : Sided side) where
-  -- Standings rank.
-  pub ranks-standings : (ss : List (Standing W)) → IsStrictWeakOrder (stands_before side ss)
-  ranks-standings ss =
-      let o = lawful-standing side laws in
-      record {
-        one_way = λ i j h. o.opposed (get_or ss i Absent) (get_or ss j Absent) h;
-        chain = λ i j k h l. elim (cases_Bool (stands_before side ss i k)) [
-          | inr n ↦ n
-          | inl t ↦ absurd (both_ways (stands_before side ss i j || stands_before side ss j k) (or_from _ _ h l)
-              (o.between (get_or ss i Absent) (get_or ss j Absent) (get_or ss k Absent) t))
-        ];
-      }
-
   told-side : (u v : Standing W) (s t : Side) (p q : ℕ) → stand side u v ≡ s → stand side v u ≡ t → ltb p q ≡ is_before s → ltb q p ≡ is_before t → compared p q ≡ s
   told-side u v Before t p q es et h k = grind (arith, nat_tests)
   told-side u v Level Before p q es et h k = absurd (let e = (sided-stand side laws).mirrored v u et in let z : ◌≡◌ {A = ℕ} 0 1 = cc in omega arith)

@@ -1,3 +1,4 @@
 pub mod Changes
 pub mod Moves
 pub mod Pool
+pub mod Ranks

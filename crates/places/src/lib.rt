@@ -6,4 +6,4 @@ mod places;
 mod pool;
 
 pub use changes::{change_links, link_of};
-pub use pool::{place_pool, trace};
+pub use pool::{Pool, place_pool, trace};

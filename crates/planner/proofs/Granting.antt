@@ -1,11 +1,10 @@
 -- Refusals of a batch in their order, and the network at the end of one that is granted.
-use Rattle.std.proofs.Common.{◌≡◌, ℕ, suc, ◌+◌, ◌-◌, ◌*◌, ◌<◌, ◌≤◌, Bool, true, false, cond, eqb, ltb, List, [], ◌∷◌, ◌++◌, length, drop, is_some, Some, None, Ok, Err, Option, sym, refl, ap, ◌∙◌, ap₂, inl, inr, arith}
-use Rattle.std.proofs.lemmas.Bool.{cases_Bool, cond-true, cond-false, both_ways, lt-ltb}
+use Rattle.std.proofs.Common.{◌≡◌, ℕ, suc, ◌+◌, ◌*◌, ◌≤◌, Bool, true, false, cond, eqb, List, [], ◌∷◌, length, is_some, Some, None, Ok, Err, Option, sym, refl, ap, ◌∙◌, ap₂, inl, inr, arith}
+use Rattle.std.proofs.lemmas.Bool.{cases_Bool, cond-true, cond-false, both_ways}
 use Rattle.std.proofs.lemmas.Bool.Decides.{nat_tests}
 use Rattle.faults.specs.declared.OpenFault.{OpenFault}
 use Rattle.faults.specs.declared.OpenFault.TheVariants.{NotJoined}
-use Rattle.faults.specs.declared.DrawFault.{DrawFault}
-use Rattle.faults.specs.declared.DrawFault.TheVariants.{ChangeCount, Parted}
+use Rattle.faults.specs.declared.DrawFault.TheVariants.{Parted}
 use Rattle.weights.specs.declared.order.Side.{Side}
 use Rattle.network.specs.declared.types.Ends.{Ends}
 use Rattle.network.specs.declared.types.LinkState.{LinkState}
@@ -17,7 +16,6 @@ use Rattle.drawing.specs.Tables.{fronted, tables_fault, joined}
 use Rattle.planner.specs.Open.{network_fault}
 use Rattle.places.specs.Changes.{changes_fault}
 use Rattle.drawing.specs.Answer.{parted_fault, unless}
-use Rattle.planner.specs.Draw.{too_short, batch_fault}
 use Rattle.places.proofs.Refusals.{or_else-none}
 use Rattle.drawing.proofs.Fits.{Fit, fits}
 
@@ -60,21 +58,6 @@ pub sound-network : {W : Type 0} (n : ℕ) (ends : List Ends) (links : List (Lin
 sound-network n ends links t a j =
     ap is_some (ap₂ (λ (o : Option OpenFault) (b : Bool). or_else o (cond b None (Some NotJoined))) a j)
 
--- A batch of too many changes.
-pub many-refused : {W : Type 0} {X : Type 0} (n : ℕ) (ends : List Ends) (links : List (LinkState W)) (batch : List (Change W)) (s e w : ℕ) (x : X) → 65536 < length batch
-    → Err ChangeCount ≡ unless (batch_fault n ends links batch s e w) x
-many-refused n ends links batch s e w x l =
-    sym (ap (λ (o : Option DrawFault). unless o x) (cond-true (ltb 65536 (length batch)) _ _ (lt-ltb 65536 (length batch) l)))
-
--- Past the checks of its size, a batch is judged by its changes.
-pub judged : {W : Type 0} (n : ℕ) (ends : List Ends) (links : List (LinkState W)) (batch : List (Change W)) (s e w : ℕ)
-    → length batch ≤ 65536 → n - 1 ≤ s → length batch ≤ e → 64 * (n + length ends + length batch) ≤ w
-    → batch_fault n ends links batch s e w ≡ or_else (changes_fault 1 links batch) (parted_fault (parted_at n ends links batch))
-judged n ends links batch s e w a b c d =
-    let x : ltb 65536 (length batch) ≡ false = grind (arith, nat_tests) in
-    let y : too_short n (length ends) (length batch) s e w ≡ false = grind (arith, nat_tests) in
-    cond-false (ltb 65536 (length batch)) _ _ x ∙ cond-false (too_short n (length ends) (length batch) s e w) _ _ y
-
 -- A batch that parts the network nowhere leaves it joined.
 pub joined-after : {W : Type 0} (k n : ℕ) (ends : List Ends) (links : List (LinkState W)) (batch : List (Change W)) → 1 ≤ k → joined n ends links ≡ true
     → parted_from k n ends links batch ≡ 0 → joined n ends (changed_by links batch) ≡ true
@@ -87,12 +70,6 @@ joined-after k n ends links (c ∷ cs) h j p =
       | inr f ↦ absurd (omega (arith, sym (cond-false (all_joined n (present_links (changed links c) (graph_of ends))) (parted_from (suc k) n ends (changed links c) cs) k f) ∙ p))
     ]
 
--- The front of a table written whole.
-pub front-written : {X : Type 0} (xs ys table : List X) (k : ℕ) → xs ≡ ys → length xs ≡ k → xs ++ drop (k - 0) table ≡ fronted ys table
-front-written {X} xs ys table k e n =
-    let z : k - 0 ≡ length ys = (let q = ap length e in omega arith) in
-    ap₂ (λ (s : List X) (j : ℕ). s ++ drop j table) e z
-
 -- A tree table that was filled, since the links join all nodes.
 pub tree-filled : {W : Type 0} (side : W → W → Side) (n : ℕ) (ends : List Ends) (links now : List (LinkState W)) (r : Bool) (tree out : List ℕ)
     → now ≡ links → r ≡ joined n ends now → joined n ends links ≡ true → out ≡ cond r (fronted (least_tree side ends now) tree) tree
@@ -100,33 +77,16 @@ pub tree-filled : {W : Type 0} (side : W → W → Side) (n : ℕ) (ends : List 
 tree-filled {W} side n ends links now r tree out e j h o =
     o ∙ cond-true r _ _ (j ∙ ap (λ (l : List (LinkState W)). joined n ends l) e ∙ h) ∙ ap (λ (l : List (LinkState W)). fronted (least_tree side ends l) tree) e
 
--- A refusal of the plan is the refusal of the batch.
-pub refused-batch : {W : Type 0} {X : Type 0} (n : ℕ) (ends : List Ends) (links : List (LinkState W)) (batch : List (Change W)) (s e w v : ℕ) (x : X) (f : DrawFault)
-    → length batch ≤ 65536 → n - 1 ≤ s → length batch ≤ e → 64 * (n + length ends + length batch) ≤ w
-    → Err f ≡ unless (or_else (changes_fault 1 links batch) (parted_fault (parted_at n ends links batch))) v
-    → Err f ≡ unless (batch_fault n ends links batch s e w) x
-refused-batch n ends links batch s e w v x f a b c d h =
-    sym (ap (λ (o : Option DrawFault). unless o x) (judged n ends links batch s e w a b c d ∙ unless-err _ v f h))
-
 -- A granted plan is a granted batch: its changes are known, and the network stays joined.
-pub record Grants {W : Type 0} (n : ℕ) (ends : List Ends) (links : List (LinkState W)) (batch : List (Change W)) (s e w : ℕ) : Type 0 where
-  pub judged : batch_fault n ends links batch s e w ≡ None
+pub record Grants {W : Type 0} (n : ℕ) (ends : List Ends) (links : List (LinkState W)) (batch : List (Change W)) : Type 0 where
   pub changes : None ≡ changes_fault 1 links batch
   pub whole : parted_at n ends links batch ≡ 0
   pub after : joined n ends (changed_by links batch) ≡ true
 
-pub granted-batch : {W : Type 0} (n : ℕ) (ends : List Ends) (links : List (LinkState W)) (batch : List (Change W)) (s e w v count : ℕ)
-    → length batch ≤ 65536 → n - 1 ≤ s → length batch ≤ e → 64 * (n + length ends + length batch) ≤ w → joined n ends links ≡ true
+pub granted-batch : {W : Type 0} (n : ℕ) (ends : List Ends) (links : List (LinkState W)) (batch : List (Change W)) (v count : ℕ) → joined n ends links ≡ true
     → Ok count ≡ unless (or_else (changes_fault 1 links batch) (parted_fault (parted_at n ends links batch))) v
-    → Grants n ends links batch s e w × (count ≡ v)
-granted-batch n ends links batch s e w v count a b c d j h =
+    → Grants n ends links batch × (count ≡ v)
+granted-batch n ends links batch v count j h =
     let u = unless-ok _ v count h in
-    let o = or_else-none (changes_fault 1 links batch) (parted_fault (parted_at n ends links batch)) u.0 in (
-      record {
-        judged = judged n ends links batch s e w a b c d ∙ u.0;
-        changes = sym o.0;
-        whole = parted-none _ o.1;
-        after = joined-after 1 n ends links batch (omega arith) j (parted-none _ o.1);
-      },
-      u.1,
-    )
+    let o = or_else-none (changes_fault 1 links batch) (parted_fault (parted_at n ends links batch)) u.0 in
+    (record { changes = sym o.0; whole = parted-none _ o.1; after = joined-after 1 n ends links batch (omega arith) j (parted-none _ o.1) }, u.1)

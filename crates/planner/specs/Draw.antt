@@ -1,5 +1,5 @@
 -- When a batch is drawn, and what a granted draw answers.
-use Rattle.std.specs.Prelude.{ℕ, ◌+◌, ◌-◌, ◌*◌, Bool, cond, ◌||◌, List, length, Some, Option, nat_lt}
+use Rattle.std.specs.Prelude.{ℕ, ◌+◌, ◌-◌, ◌*◌, Bool, cond, ◌||◌, List, length, Some, None, Option, nat_lt}
 use Rattle.std.specs.Option.{option_map}
 use Rattle.faults.specs.declared.OpenFault.{OpenFault}
 use Rattle.faults.specs.declared.DrawFault.{DrawFault}
@@ -17,6 +17,10 @@ pub use Rattle.drawing.specs.Answer.{parted_fault, unless}
 -- Whether a start list of s numbers, an entry table of e entries or a work area of w words is too short for k changes.
 abbrev pub too_short : ℕ → ℕ → ℕ → ℕ → ℕ → ℕ → Bool
 too_short n m k s e w = nat_lt s (n - 1) || nat_lt e k || nat_lt w (64 * (n + m + k))
+
+-- Why no batch of k changes is drawn, whatever they are: they are too many, or a table is too short.
+abbrev pub sizes_fault : ℕ → ℕ → ℕ → ℕ → ℕ → ℕ → Option DrawFault
+sizes_fault n m k s e w = cond (nat_lt 65536 k) (Some ChangeCount) (cond (too_short n m k s e w) (Some ShortTables) None)
 
 -- Why a batch is not drawn from a network that was opened, if so.
 abbrev pub batch_fault : {W : Type 0} → ℕ → List Ends → List (LinkState W) → List (Change W) → ℕ → ℕ → ℕ → Option DrawFault

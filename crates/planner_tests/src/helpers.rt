@@ -3,7 +3,6 @@ use faults::{DrawFault, Fault, Layer, OpenFault};
 use network::{Change, Ends, LinkState, Node};
 use planner::{Book, Drawn, Tables};
 use std::process::Abort;
-use std::test::Fail;
 use weights::{Cost, Weight};
 
 /// A link between two nodes.
@@ -40,19 +39,6 @@ pub(crate) fn four_links() -> [LinkState<Cost>; 5] {
     [at(5), at(4), at(6), at(7), at(8)]
 }
 
-/// Whether two link tables are the same.
-pub(crate) fn same_links(us: &[LinkState<Cost>], vs: &[LinkState<Cost>]) -> bool {
-    if us.len() != vs.len() {
-        return false;
-    }
-    for i in 0..us.len() {
-        if us[i].weight.0 != vs[i].weight.0 || us[i].present != vs[i].present {
-            return false;
-        }
-    }
-    true
-}
-
 /// The tables that a draw writes.
 #[derive(Drop)]
 pub struct Out<'a, 'b, 'c> {
@@ -87,14 +73,6 @@ pub(crate) fn open_and_draw<W: Weight>(
     book.draw(batch, start, entries, work)
 }
 
-/// The counts that a granted draw answers.
-pub(crate) fn granted(answer: Result<Drawn, DrawFault>) -> Result<Drawn, Fault> {
-    match answer {
-        Ok(drawn) => Ok(drawn),
-        Err(fault) => Err(Fault::from(fault)),
-    }
-}
-
 /// Checks that a draw was refused with this report.
 pub(crate) fn refused(
     rt: &impl Abort,
@@ -102,33 +80,17 @@ pub(crate) fn refused(
     layer: Layer,
     code: u32,
     place: u32,
-) -> Result<(), Fail> {
-    match answer {
-        Ok(_) => Err(Fail::new("granted")),
-        Err(fault) => {
-            assert_eq!(rt; Fault::from(fault), Fault { layer, code, place });
-            Ok(())
-        },
-    }
+) {
+    let report = Fault { layer, code, place };
+    assert_eq!(rt; answer.err().map(|fault| Fault::from(fault)), Some(report));
 }
 
 /// Checks that an open was refused with this code and place.
-pub(crate) fn not_opened(
-    rt: &impl Abort,
-    refusal: Option<OpenFault>,
-    code: u32,
-    place: u32,
-) -> Result<(), Fail> {
-    match refusal {
-        None => Err(Fail::new("granted")),
-        Some(fault) => {
-            let report = Fault {
-                layer: Layer::Book,
-                code,
-                place,
-            };
-            assert_eq!(rt; Fault::from(fault), report);
-            Ok(())
-        }
-    }
+pub(crate) fn not_opened(rt: &impl Abort, refusal: Option<OpenFault>, code: u32, place: u32) {
+    let report = Fault {
+        layer: Layer::Book,
+        code,
+        place,
+    };
+    assert_eq!(rt; refusal.map(|fault| Fault::from(fault)), Some(report));
 }

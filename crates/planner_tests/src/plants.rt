@@ -25,7 +25,7 @@ fn four_switches(rt: HostRuntime) -> Result<(), Fail> {
         start: &mut start,
         entries: &mut entries,
     };
-    let drawn = granted(open_and_draw(4, &four_ends(), &mut links, &batch, out, &mut [0u32; 896]))?;
+    let drawn = open_and_draw(4, &four_ends(), &mut links, &batch, out, &mut [0u32; 896])?;
     assert!(rt; drawn.n == 4 && drawn.m == 5 && drawn.k == 5 && drawn.work == 39);
     assert_eq!(rt; start, [1u32, 2, 3, 9]);
     assert_eq!(rt;
@@ -33,7 +33,7 @@ fn four_switches(rt: HostRuntime) -> Result<(), Fail> {
         [(3u32, 4u32), (2, 3), (0, 0), (3, 2), (1, 3), (9, 9)]
     );
     assert_eq!(rt; tree, [2u32, 3, 4, 9, 9]);
-    assert!(rt; same_links(&links, &[at(9), at(4), at(6), at(3), at(6)]));
+    assert_eq!(rt; links, [at(9), at(4), at(6), at(3), at(6)]);
     Ok(())
 }
 
@@ -55,7 +55,7 @@ fn one_change(
         start: &mut start,
         entries: &mut entries,
     };
-    let drawn = granted(open_and_draw(2, &ends[0..m], links, &[change], out, &mut [0u32; 320]))?;
+    let drawn = open_and_draw(2, &ends[0..m], links, &[change], out, &mut [0u32; 320])?;
     assert_eq!(rt; drawn.work, work);
     Ok((start[0], entries[0], tree[0]))
 }
@@ -82,7 +82,7 @@ fn one_node(rt: HostRuntime) -> Result<(), Fail> {
         start: &mut start,
         entries: &mut entries,
     };
-    let drawn = granted(open_and_draw(1, &[], &mut links, &[], out, &mut [0u32; 64]))?;
+    let drawn = open_and_draw(1, &[], &mut links, &[], out, &mut [0u32; 64])?;
     assert!(rt; drawn.n == 1 && drawn.m == 0 && drawn.k == 0 && drawn.work == 0);
     assert_eq!(rt; start, [9u32]);
     assert_eq!(rt; tree, [9u32]);
@@ -92,13 +92,10 @@ fn one_node(rt: HostRuntime) -> Result<(), Fail> {
 
 /// A present link of a class weight.
 fn in_class(class: u32, cost: u32) -> Result<LinkState<Class>, Fault> {
-    match Class::new(class, cost) {
-        Ok(weight) => Ok(LinkState {
-            weight,
-            present: true,
-        }),
-        Err(fault) => Err(Fault::from(fault)),
-    }
+    Ok(LinkState {
+        weight: Class::new(class, cost)?,
+        present: true,
+    })
 }
 
 /// The class counts first: of two parallel links that of class 0 and cost 900 is before that of class 1 and cost 2.
@@ -125,18 +122,11 @@ fn class_first(rt: HostRuntime) -> Result<(), Fail> {
 
 #[test]
 fn class_above(rt: HostRuntime) -> Result<(), Fail> {
-    match in_class(8, 0) {
-        Ok(_) => Err(Fail::new("granted")),
-        Err(fault) => {
-            assert_eq!(rt;
-                fault,
-                Fault {
-                    layer: Layer::Book,
-                    code: 16,
-                    place: 0,
-                }
-            );
-            Ok(())
-        },
-    }
+    let report = Fault {
+        layer: Layer::Book,
+        code: 16,
+        place: 0,
+    };
+    assert_eq!(rt; in_class(8, 0).err(), Some(report));
+    Ok(())
 }

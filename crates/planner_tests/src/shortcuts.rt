@@ -22,7 +22,7 @@ fn parallel(
         start: &mut start,
         entries: &mut entries,
     };
-    granted(open_and_draw(2, &ends[0..m], links, batch, out, &mut [0u32; 512]))?;
+    open_and_draw(2, &ends[0..m], links, batch, out, &mut [0u32; 512])?;
     Ok(entries)
 }
 

@@ -1,17 +1,15 @@
 //! Drawing the plan of a batch.
-ghost use Rattle.std.specs.Prelude.{◌≡◌, ◌-◌, ◌*◌, ◌≤◌, true, false, length, is_some, is_ok, if◌then◌else◌, None};
-ghost use Rattle.leaves.specs.Words.{entries_in};
-ghost use Rattle.places.specs.Moves.{Known};
+ghost use Rattle.std.specs.Prelude.{◌≡◌, ◌≤◌, false, length, is_some, is_ok, if◌then◌else◌};
 ghost use Rattle.plans.specs.Network.{changed_by, least_tree, plan};
-ghost use Rattle.planner.specs.Draw.{batch_fault, draw_fault, counts};
 ghost use Rattle.drawing.specs.Answer.{unless};
-ghost use Rattle.planner.specs.Truth.{Truth};
-ghost use Rattle.drawing.specs.Tables.{tables_fault, joined, fronted};
+ghost use Rattle.drawing.specs.Tables.{fronted};
+ghost use Rattle.planner.specs.Draw.{sizes_fault, batch_fault, draw_fault, counts};
 ghost use Rattle.planner.specs.Open.{network_fault};
+ghost use Rattle.planner.specs.Truth.{Truth};
 
 use crate::book::Book;
 use crate::drawn::Drawn;
-use drawing::{copy_entries, draw_plan, least_tree};
+use drawing::{Network, copy_entries};
 use faults::DrawFault;
 use network::{Change, Ends, LinkState};
 use places::change_links;
@@ -54,34 +52,7 @@ impl<'a, 'b, 'c, W: Weight> Book<'a, 'b, 'c, W> {
     }
 }
 
-/// Writes what a granted draw gives: the start list, the entries, the links and the tree at the end of the batch.
-fn commit<W: Ordered>(
-    n: u32,
-    ends: &[Ends],
-    links: &mut [LinkState<W>],
-    tree: &mut [u32],
-    batch: &[Change<W>],
-    start: &mut [u32],
-    entries: &mut [(u32, u32)],
-    out: &[u32],
-    work: &mut [u32],
-)
-    requires fits { (tables_fault n ends.now (length links.old) (length tree.old) (length work.old) ≡ None) × (n - 1 ≤ length start.old) }
-    requires whole { (joined n ends.now links.old ≡ true) × (joined n ends.now (changed_by links.old batch.now) ≡ true) }
-    requires known { Known (length links.old) batch.now }
-    requires out { (length out.now ≡ length batch.now * 2) × (length batch.now ≤ length entries.old) }
-    ensures start { start.new ≡ fronted (least_tree W.Ordered.side ends.now links.old) start.old }
-    ensures entries { entries.new ≡ fronted (entries_in out.now) entries.old }
-    ensures links { links.new ≡ changed_by links.old batch.now }
-    ensures tree { tree.new ≡ fronted (least_tree W.Ordered.side ends.now (changed_by links.old batch.now)) tree.old }
-{
-    least_tree(n, ends, links, start, work);
-    copy_entries(out, &mut entries[0..batch.len()]);
-    change_links(links, batch);
-    least_tree(n, ends, links, tree, work);
-}
-
-/// Draws the plan of a batch from a sound network.
+/// Draws the plan of a batch from a sound network, and moves its links and its tree to the end of the batch.
 fn draw_batch<W: Ordered>(
     n: u32,
     ends: &[Ends],
@@ -101,21 +72,41 @@ fn draw_batch<W: Ordered>(
     ensures truth { Truth W.Ordered.side n ends.now links.old batch.now result }
     ensures sound { is_some (network_fault n ends.now links.new (length tree.new)) ≡ false }
 {
-    let m = ends.len();
-    let k = batch.len();
+    check_sizes(n, ends.len(), batch.len(), start.len(), entries.len(), work.len())?;
+    let (out, rest) = work.split_at_mut(batch.len() * 2);
+    let (out, _) = out.as_chunks_mut::<2>();
+    let network = Network { n, ends, links };
+    let count = network.draw_plan(batch, out, rest)?;
+    network.least_tree(start, rest);
+    copy_entries(out, &mut entries[..batch.len()]);
+    change_links(links, batch);
+    let network = Network { n, ends, links };
+    network.least_tree(tree, rest);
+    Ok(Drawn {
+        n,
+        m: ends.len() as u32,
+        k: batch.len() as u32,
+        work: count,
+    })
+}
+
+/// Refuses a batch of k changes of m links among n nodes, if it is too long or a lent table is too short.
+fn check_sizes(
+    n: u32,
+    m: usize,
+    k: usize,
+    start: usize,
+    entries: usize,
+    work: usize,
+) -> Result<(), DrawFault>
+    requires { (1 ≤ n) × (n ≤ 4096) × (m ≤ 16384) }
+    ensures { result ≡ unless (sizes_fault n m k start entries work) tt }
+{
     if k > MAX_CHANGES {
         return Err(DrawFault::ChangeCount);
     }
-    if start.len() < n as usize - 1 || entries.len() < k || work.len() < 64 * (n as usize + m + k) {
+    if start < n as usize - 1 || entries < k || work < 64 * (n as usize + m + k) {
         return Err(DrawFault::ShortTables);
     }
-    let (out, rest) = work.split_at_mut(k * 2);
-    let count = draw_plan(n, ends, links, batch, out, rest)?;
-    commit(n, ends, links, tree, batch, start, entries, out, rest);
-    Ok(Drawn {
-        n,
-        m: m as u32,
-        k: k as u32,
-        work: count,
-    })
+    Ok(())
 }

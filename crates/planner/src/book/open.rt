@@ -7,7 +7,7 @@ ghost use Rattle.drawing.specs.Tables.{tables_fault, fronted};
 
 use crate::book::Book;
 use crate::tables::Tables;
-use drawing::least_tree;
+use drawing::Network;
 use faults::OpenFault;
 use network::{Ends, LinkState, MAX_LINKS, MAX_NODES, check_ends};
 use weights::{Ordered, Weight};
@@ -82,7 +82,8 @@ fn find_tree<W: Ordered>(
     ensures tree { tree.new ≡ (if is_ok result then fronted (least_tree W.Ordered.side ends.now links.now) tree.old else tree.old) }
 {
     check_tables(n, ends, links.len(), tree.len(), work.len())?;
-    if !least_tree(n, ends, links, tree, work) {
+    let network = Network { n, ends, links };
+    if !network.least_tree(tree, work) {
         return Err(OpenFault::NotJoined);
     }
     Ok(())

@@ -1,5 +1,5 @@
 use Rattle.std.proofs.Common.{◌≡◌, take}
-use Rattle.leaves.specs.Words.{moves_in}
+use Rattle.block_records.specs.Words.{moves_in}
 use Rattle.places.specs.Moves.{place_moves}
 use Rattle.drawing.proofs.plan.list_moves.Given as goal
 

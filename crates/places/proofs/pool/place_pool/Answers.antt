@@ -2,18 +2,8 @@ use Rattle.std.proofs.Common.{◌≡◌, length, arith}
 use Rattle.std.proofs.lemmas.List.{length-map}
 use Rattle.plans.specs.Network.{Sided}
 use Rattle.places.specs.Pool.{weights_of, told_by, sourced}
-use Rattle.places.proofs.Pooled.{ranks-standings, places-compared}
+use Rattle.places.proofs.Pooled.{places-compared}
 use Rattle.places.proofs.pool.place_pool.Goals as goal
-
-pub give_places-requires : goal.give_places-requires
-give_places-requires g c =
-    let m = g.met.W.Ordered in
-    let side = g.W.Ordered.side in
-    let laws : Sided side = record { level = m.level; mirrored = m.mirrored; back = m.back; passes = m.passes } in
-    record {
-      size = c.requires;
-      ranks = ranks-standings side laws (sourced c.args.pool.now.links.now c.args.pool.now.batch.now c.args.pool.now.sources.now);
-    }
 
 pub returns : goal.returns
 returns g c = λ i j li lj.
