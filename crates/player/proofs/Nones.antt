@@ -1,6 +1,6 @@
 -- When a chain of grounds gives no fault.
-use Rattle.std.proofs.Common.{◌≡◌, Bool, true, false, cond, Some, None, Ok, Option, refl, arith}
-use Rattle.network.specs.Ends.{or_else, unless}
+use Rattle.std.proofs.Common.{◌≡◌, Bool, true, false, cond, Some, None, Ok, Option, refl}
+use Rattle.network.specs.Ends.{unless}
 
 pub none-some : {X : Type 0} (o : Option X) (x : X) → o ≡ None → o ≡ Some x → ⊥
 none-some o x e f = cc
@@ -8,17 +8,6 @@ none-some o x e f = cc
 pub cond-none : {X : Type 0} (b : Bool) (f : X) (o : Option X) → cond b (Some f) o ≡ None → (b ≡ false) × (o ≡ None)
 cond-none true f o e = cc
 cond-none false f o e = (refl, e)
-
-pub cond-pass : {X : Type 0} (b : Bool) (f : X) (o : Option X) → cond b o (Some f) ≡ None → (b ≡ true) × (o ≡ None)
-cond-pass true f o e = (refl, e)
-cond-pass false f o e = cc
-
-pub or-none : {X : Type 0} (o p : Option X) → or_else o p ≡ None → (o ≡ None) × (p ≡ None)
-or-none None p e = (refl, e)
-or-none (Some x) p e = cc
-
-pub none_or : {X : Type 0} (o p : Option X) → o ≡ None → p ≡ None → or_else o p ≡ None
-none_or o p e f = grind arith
 
 -- Where a call that only refuses has passed, there is no ground.
 pub passed : {X E : Type 0} (o : Option E) (x y : X) → Ok x ≡ unless o y → o ≡ None

@@ -6,7 +6,6 @@ use Rattle.player.specs.Moves.{leave_fault, come_fault, pair_fault, dimmed, lit}
 use Rattle.promise.specs.Undo.{Exchanged}
 use Rattle.promise.proofs.Flags.{put, length-put, put-here, put-there, unput}
 use Rattle.std.proofs.lemmas.Bool.Decides.{nat_tests}
-use Rattle.player.proofs.Nones.{or-none, none_or}
 
 -- Link l, if it is one, is there, and carries or not.
 abbrev Is : List Bool → ℕ → Bool → Type 0
@@ -34,10 +33,10 @@ module _ (b : Bool) (c : List Bool) (l k : ℕ) (some : 1 ≤ k) where
 -- A move that no fault forbids: link l leaves and link x comes.
 module _ (c : List Bool) (l x : ℕ) (granted : pair_fault c l x ≡ None) where
   on : Is c l true
-  on = leave-is c l (or-none (leave_fault c l) (come_fault c x) granted).0
+  on = leave-is c l (grind arith)
 
   off : Is c x false
-  off = come-is c x (or-none (leave_fault c l) (come_fault c x) granted).1
+  off = come-is c x (grind arith)
 
   abbrev mid : List Bool
   mid = dimmed c l
@@ -85,7 +84,7 @@ module _ (c : List Bool) (l x : ℕ) (granted : pair_fault c l x ≡ None) where
   may-cancel = is-come mid l left-off
 
   pub may-return : pair_fault end x l ≡ None
-  may-return = none_or (leave_fault end x) (come_fault end l) (is-leave end x come-on) (is-come end l left-still)
+  may-return = let a = is-leave end x come-on in let b = is-come end l left-still in grind arith
 
   pub parted : Exchanged l 0 c mid
   parted = record {
