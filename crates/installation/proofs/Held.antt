@@ -7,8 +7,6 @@ use Rattle.std.specs.Option.{option_map}
 use Rattle.faults.specs.declared.OpenFault.{OpenFault}
 use Rattle.faults.specs.declared.DrawFault.{DrawFault}
 use Rattle.weights.specs.declared.order.Side.{Side}
-use Rattle.network.specs.declared.types.Ends.{Ends}
-use Rattle.network.specs.declared.types.LinkState.{LinkState}
 use Rattle.network.specs.declared.types.Change.{Change}
 use Rattle.plans.specs.Network.{Sided, least_tree, changed_by, plan}
 use Rattle.planner.specs.Open.{fronted, open_fault, network_fault}
@@ -16,9 +14,9 @@ use Rattle.planner.specs.Draw.{draw_fault, counts, unless}
 use Rattle.planner.specs.declared.drawn.Drawn.{Drawn}
 use Rattle.player.specs.Plan.{Sheet}
 use Rattle.promise.specs.declared.answer.Answer.{Answer}
-use Rattle.promise.specs.declared.answer.Answer.TheVariants.{NotMade, NotOpened, Drew, NotDrawn}
+use Rattle.promise.specs.declared.answer.Answer.TheVariants.{NotMade, Drew, NotDrawn}
 use Rattle.promise.specs.Installation.{Network, after, DrawnPlan, drawn_from, Player, nobody, Installation, new}
-use Rattle.promise.specs.Calls.{Request, opening, One, this, older, drew, Step, open-granted, open-refused, draw-granted, draw-refused, Runs, none, then}
+use Rattle.promise.specs.Calls.{Request, One, this, older, drew, Step, open-granted, open-refused, draw-granted, draw-refused, Runs, none, then}
 use Rattle.promise.proofs.Accepted.{Accepted, open-accepts, all-accepted}
 use Rattle.promise.proofs.Trees.{tree-length}
 use Rattle.installation.specs.declared.call.Batch.{Batch}
@@ -27,7 +25,7 @@ use Rattle.installation.specs.declared.call.Call.TheVariants as call
 use Rattle.installation.specs.declared.seat.Seat.{Seat}
 use Rattle.installation.specs.declared.seat.Seat.TheVariants.{Free, Still, Moving}
 use Rattle.installation.specs.Slots.{width, part, or_kept, Table}
-use Rattle.installation.specs.Perform.{Lent, Desk, fresh, plan_at, start_in, entries_in, if_closed, if_open, lay_it, by_player, drawn, asked, plans_after, slot_after, Made, Turn, Turns, done, next, TurnsRun, Seated, counted, links_now, tree_now}
+use Rattle.installation.specs.Perform.{Lent, Desk, fresh, plan_at, start_in, entries_in, if_open, by_player, drawn, asked, plans_after, slot_after, Made, Turn, Turns, done, next, TurnsRun, Seated, counted, links_now, tree_now}
 use Rattle.installation.specs.Hands.{Hand, Booked, Holds, Makes, Leads, is_free, may_draw, place_of, to_player, first_answer, open_answer}
 use Rattle.installation.specs.Turns.{Plays}
 use Rattle.installation.proofs.Tables.{part-long, table-new, table-put}

@@ -1,7 +1,7 @@
 -- Writing answers down in a log.
 use Rattle.std.proofs.Common.{◌≡◌, ℕ, ◌+◌, ◌<◌, ◌≤◌, List, [], ◌∷◌, ◌++◌, length, get_or, take, drop, set, sym, ap, ◌∙◌, append_assoc, append-nil, arith}
 use borrow.Rule.Slice.PartMut.{put_mid}
-use Rattle.std.proofs.lemmas.List.{map-append, map-set, set-get_or, get_or-map, length-map, length-drop, take_more, take_more_set, take-map, drop_all, take-append-drop}
+use Rattle.std.proofs.lemmas.List.{map-append, map-set, set-get_or, get_or-map, length-map, length-drop, take_more, take_more_set, take-map, take_all, drop_all, take-append-drop}
 use Rattle.promise.specs.declared.answer.Answer.{Answer}
 use Rattle.promise.specs.declared.answer.Answer.TheVariants.{NotMade}
 use Rattle.installation.specs.declared.call.Call.TheVariants.{Open}
@@ -49,3 +49,10 @@ pub calls-joined : (n : ℕ) (log tail : List Line) → calls tail ≡ drop n (c
 calls-joined n log tail e =
     map-append (λ (x : Line). x.call) (take n log) tail ∙ ap (λ z. calls (take n log) ++ z) e
     ∙ ap (λ z. z ++ drop n (calls log)) (sym (take-map (λ (x : Line). x.call) n log)) ∙ take-append-drop n (calls log)
+
+-- A log has no calls or answers beyond its lines.
+pub whole-log : (i : ℕ) (log : List Line) → length log ≤ i → (take i (calls log) ≡ calls log) × (take i (answers log) ≡ answers log)
+whole-log i log h = (
+  take_all i (calls log) (let e = length-map log (λ (x : Line). x.call) in omega arith),
+  take_all i (answers log) (let e = length-map log (λ (x : Line). x.answer) in omega arith),
+)

@@ -1,7 +1,6 @@
 -- Each call of the player, as code makes it, is a step of the installation that it holds.
 use Rattle.std.proofs.Common.{◌≡◌, ℕ, ◌+◌, ◌-◌, Bool, true, List, Some, None, Ok, Err, Option, Result, sym, refl, ap, subst}
 use Rattle.std.specs.Prelude.{MatchResult}
-use Rattle.std.proofs.lemmas.Bool.{both_ways}
 use Rattle.faults.specs.declared.PlayerFault.{PlayerFault}
 use Rattle.weights.specs.declared.order.Side.{Side}
 use Rattle.player.specs.declared.states.Steady.{Steady}
@@ -14,7 +13,7 @@ use Rattle.player.specs.Moves.{Forwards, Backwards, Joins, Cancels}
 use Rattle.promise.specs.declared.answer.Answer.{Answer}
 use Rattle.promise.specs.declared.answer.Answer.TheVariants.{NotMade, Granted, Refused, Abandoned, Finished}
 use Rattle.promise.specs.Installation.{DrawnPlan, Player, nobody, steady, between, Installation}
-use Rattle.promise.specs.Calls.{Request, laying, forward, backward, join, cancel, abandon, finish, laid, played, departed, arrived_at, told, Step, lay-granted, lay-refused, forwards, backwards, joins, cancels, abandons, finishes}
+use Rattle.promise.specs.Calls.{Request, laying, laid, played, departed, arrived_at, told, Step, lay-granted, lay-refused, forwards, backwards, joins, cancels, abandons, finishes}
 use Rattle.installation.specs.declared.call.Call.{Call}
 use Rattle.installation.specs.declared.call.Call.TheVariants as call
 use Rattle.installation.specs.declared.seat.Seat.{Seat}

@@ -1,15 +1,13 @@
-use Rattle.std.proofs.Common.{◌≡◌, ℕ, ◌+◌, ◌-◌, ◌<◌, List, ◌∷◌, ◌++◌, length, take, drop, replicate, None, sym, refl, ap, ◌∙◌, subst, rules, arith}
+use Rattle.std.proofs.Common.{◌≡◌, ℕ, ◌+◌, ◌-◌, ◌<◌, ◌∷◌, ◌++◌, length, take, drop, replicate, None, sym, refl, ap, ◌∙◌, subst, rules, arith}
 use borrow.Rule.Slice.PartMut.{put_mid}
 use Rattle.std.proofs.lemmas.List.{length-map, drop-map}
 use Rattle.std.proofs.lemmas.Slice.{between_to_end}
-use Rattle.promise.specs.declared.answer.Answer.{Answer}
 use Rattle.promise.specs.Calls.{none}
 use Rattle.promise.specs.Installation.{new}
 use Rattle.promise.proofs.Keeps.{never-broken}
-use Rattle.installation.specs.declared.call.Call.{Call}
 use Rattle.installation.specs.declared.call.Line.{Line}
 use Rattle.installation.specs.declared.seat.Seat.TheVariants.{Free}
-use Rattle.installation.specs.Perform.{lent, fresh, calls, answers, plan_at, start_in, entries_in, Turns, Seated}
+use Rattle.installation.specs.Perform.{lent, fresh, calls, answers, plan_at, start_in, entries_in, Seated}
 use Rattle.installation.specs.Hands.{Hand, hand, first_answer, Leads}
 use Rattle.installation.proofs.Tables.{table_is}
 use Rattle.installation.proofs.Logs.{noted, calls-noted, log-joined, answers-joined, calls-joined}
@@ -91,7 +89,7 @@ returns-clause-run g c =
     ∙ ap (drop (at + 1)) (calls-noted log at a in2 ∙ c.wait.ensures.log) in
     let opens = first-open side carrying l f h o.answer o.nodes o.ends o.links o.tree (c.fill.ensures.after (λ y h. search rules)) refl refl refl c.open-book.auto.work refl refl refl in
     let rest : Leads side carrying h (drop (at + 1) cs) (answers q.log) k =
-    subst (λ (z : List Call). Leads side carrying h z (answers q.log) k) tail-calls s.run in
+    rw (← tail-calls) s.run in
     let x = performs side carrying l f cs (take at (answers log)) (answers q.log) at h k in1 first.1 (c.in-Some.ensures.run l f) opens rest in
     let y = x.2 in
     let told : answers (put_mid (at + 1) long written q.log) ≡ take at (answers log) ++ first_answer b.refusal ∷ answers q.log =

@@ -1,11 +1,7 @@
-use Rattle.std.proofs.Common.{◌+◌, ◌<◌, ◌≤◌, List, [], ◌∷◌, ◌++◌, length, get_or, take, sym, refl, ◌∙◌, subst, arith}
-use Rattle.std.proofs.lemmas.List.{length-map, take_all}
-use Rattle.promise.specs.declared.answer.Answer.{Answer}
+use Rattle.std.proofs.Common.{◌<◌, ◌≤◌, length, get_or, refl, ◌∙◌, arith}
 use Rattle.promise.specs.declared.answer.Answer.TheVariants.{NotMade}
-use Rattle.installation.specs.declared.call.Call.{Call}
-use Rattle.installation.specs.declared.call.Line.{Line}
-use Rattle.installation.specs.Perform.{fresh, calls, answers, Turns, done}
-use Rattle.installation.proofs.Logs.{blank, noted, calls-noted, answers-noted, calls-on}
+use Rattle.installation.specs.Perform.{done}
+use Rattle.installation.proofs.Logs.{blank, calls-noted, answers-noted, calls-on, whole-log}
 use Rattle.installation.proofs.Held.{turns-on, new-waits}
 use Rattle.installation.proofs.performing.wait.Goals as goal
 
@@ -24,8 +20,7 @@ loop-i-preserved g c =
       calls-noted log i NotMade h ∙ e,
       λ t f.
           let x = turns-on side carrying (get_or log i blank).call NotMade (c.loop-i.invariant.1 t f) (new-waits side carrying (get_or log i blank).call c.in_default.not-Open t f) in
-          subst (λ (z : List Call). Turns side carrying t (fresh t f) z (take (i + 1) (answers (noted log i NotMade))) (fresh t f)) (calls-on log old i h e)
-          (rw (answers-noted log i NotMade h) x),
+          rw (← calls-on log old i h e, answers-noted log i NotMade h) x,
     )
 
 pub returns-clause-run : goal.returns-clause-run
@@ -34,7 +29,4 @@ returns-clause-run g c = λ t f.
     let old = c.args.log.now in
     let n : length l.log ≤ l.i = let k = l.auto.log in let q = c.loop-i-test.false in omega arith in
     let o : length old ≤ l.i = let k = l.auto.log in omega arith in
-    let a = take_all l.i (calls old) (let e = length-map old (λ (x : Line). x.call) in omega arith) in
-    let b = take_all l.i (answers l.log) (let e = length-map l.log (λ (x : Line). x.answer) in omega arith) in
-    subst (λ (z : List Call). Turns g.W.Ordered.side g.F.Fabric.carrying t (fresh t f) z (answers l.log) (fresh t f)) a
-    (subst (λ (z : List Answer). Turns g.W.Ordered.side g.F.Fabric.carrying t (fresh t f) (take l.i (calls old)) z (fresh t f)) b (l.invariant.1 t f))
+    rw (← (whole-log l.i old o).0, ← (whole-log l.i l.log n).1) (l.invariant.1 t f)

@@ -1,8 +1,5 @@
-use Rattle.std.proofs.Common.{ℕ, ◌-◌, List, length, take, drop, sym, refl, ap, ◌∙◌, ap₂}
+use Rattle.std.proofs.Common.{◌-◌, length, sym, refl, ap, ◌∙◌}
 use borrow.Rule.Slice.PartMut.{put_mid, put_same}
-use Rattle.plans.specs.Network.{least_tree, plan}
-use Rattle.planner.specs.Open.{fronted}
-use Rattle.planner.specs.Draw.{draw_fault, counts, unless}
 use Rattle.installation.specs.Hands.{hand}
 use Rattle.installation.proofs.Held.{draw-waits, draw-makes, draw-fails, cut-is, put_is}
 use Rattle.installation.proofs.memory.Memory.draw.Goals as goal
@@ -13,7 +10,6 @@ returns-then-not-may_draw-clause-made g c = λ f.
 
 pub returns-in-Ok-clause-made : goal.returns-in-Ok-clause-made
 returns-in-Ok-clause-made g c =
-    let side = g.W.Ordered.side in
     let m = g.met.W.Ordered in
     let q = c.draw.new in
     let e = c.in-Ok.ensures in
@@ -24,24 +20,21 @@ returns-in-Ok-clause-made g c =
     let en = c.args.self.now.entries.now in
     let i = c.part_of-a in
     let j = c.part_of-c in
-    let own = take (b.to - b.from) (drop b.from c.args.self.now.changes.now) in
     let ws = cut-is (length ps) b.slot i.result.0 i.result.1 st i.ensures.from i.ensures.to in
     let we = cut-is (length ps) b.slot j.result.0 j.result.1 en j.ensures.from j.ensures.to in
     λ f.
-    draw-makes side g.F.Fabric.carrying b (hand book c.args.self.now c.args.state.now f) (sym c.if-not-may_draw.ensures)
+    draw-makes g.W.Ordered.side g.F.Fabric.carrying b (hand book c.args.self.now c.args.state.now f) (sym c.if-not-may_draw.ensures)
     (record { level = m.level; mirrored = m.mirrored; back = m.back; passes = m.passes }) book.sound _
     c.in-Ok.counts q.start q.entries
-    (e.answer ∙ ap₂ (λ (t : List ℕ) (u : List (ℕ × ℕ)). unless (draw_fault book.refusal book.n book.ends.now book.links.now own (length t) (length u) (length c.args.self.now.work.now))
-    (counts side book.n book.ends.now book.links.now own)) ws we)
+    (rw (← ws, ← we) e.answer)
     e.same.0 e.same.1 e.same.2 refl c.draw.auto.work refl refl refl refl e.links e.tree
-    (e.start ∙ ap (fronted (least_tree side book.ends.now book.links.now)) ws) (c.draw.auto.start ∙ ap length ws)
+    (rw (← ws) e.start) (rw (← ws) c.draw.auto.start)
     (put_is (length ps) b.slot i.result.0 i.result.1 st i.ensures.from i.ensures.to q.start)
-    (e.entries ∙ ap (fronted (plan side book.ends.now book.links.now own)) we) (c.draw.auto.entries ∙ ap length we)
+    (rw (← we) e.entries) (rw (← we) c.draw.auto.entries)
     (put_is (length ps) b.slot j.result.0 j.result.1 en j.ensures.from j.ensures.to q.entries)
 
 pub returns-in-Err-clause-made : goal.returns-in-Err-clause-made
 returns-in-Err-clause-made g c =
-    let side = g.W.Ordered.side in
     let e = c.in-Err.ensures in
     let b = c.args.batch in
     let book = c.args.book.now in
@@ -50,13 +43,11 @@ returns-in-Err-clause-made g c =
     let en = c.args.self.now.entries.now in
     let i = c.part_of-a in
     let j = c.part_of-c in
-    let own = take (b.to - b.from) (drop b.from c.args.self.now.changes.now) in
     let ws = cut-is (length ps) b.slot i.result.0 i.result.1 st i.ensures.from i.ensures.to in
     let we = cut-is (length ps) b.slot j.result.0 j.result.1 en j.ensures.from j.ensures.to in
     λ f.
-    draw-fails side g.F.Fabric.carrying b (hand book c.args.self.now c.args.state.now f) (sym c.if-not-may_draw.ensures) _ c.in-Err.fault
-    (e.answer ∙ ap₂ (λ (t : List ℕ) (u : List (ℕ × ℕ)). unless (draw_fault book.refusal book.n book.ends.now book.links.now own (length t) (length u) (length c.args.self.now.work.now))
-    (counts side book.n book.ends.now book.links.now own)) ws we)
+    draw-fails g.W.Ordered.side g.F.Fabric.carrying b (hand book c.args.self.now c.args.state.now f) (sym c.if-not-may_draw.ensures) _ c.in-Err.fault
+    (rw (← ws, ← we) e.answer)
     (record {
       n = e.same.0;
       ends = e.same.1;
