@@ -10,7 +10,8 @@ use std::time::Instant;
 use std::{env, io};
 use weights::Cost;
 
-/// A linear congruential generator: the same numbers in every run.
+/// A linear congruential generator: the same numbers in every run. `crosscheck` has the same few lines: a crate for them
+/// would be longer.
 #[derive(Drop)]
 struct Random(u64);
 

@@ -27,6 +27,7 @@ pub fn play(
     ends: &[Ends],
     trees: &forecast::Plan,
 ) -> Result<(), Failure> {
+    // Each make borrows memory of its own and is made from other parts, so one function for both would be longer.
     let m = ends.len();
     let mut bytes = vec![in group.heap; BLANK; m.saturating_add(SPARE)]?;
     let map = LinkMap::blank(plan.m, bytes.as_mut_slice());
