@@ -73,7 +73,8 @@ pub(crate) fn block(
     let met = tally.receive(graph.links.len());
     if moves.len() == 1 {
         let change = Move::from(moves[0]);
-        out[0] = leaf(left.links, places, change).into();
+        let (goes, comes) = leaf(left.links, places, change);
+        out[0] = [goes, comes];
         return met.tell(left.links, places);
     }
     let mid = moves.len().div_ceil(2);

@@ -15,7 +15,8 @@ mod tables;
 
 use block::block;
 use leaves::Tally;
-pub use tables::{Graph, Tables};
+pub use tables::Graph;
+use tables::Tables;
 
 /// Makes the changes of a batch in top blocks of as many changes as there are links, and writes what each exchanges.
 fn top_blocks(

@@ -10,9 +10,9 @@ pub struct Graph<'a> {
 /// Marks of the links that a block's changes name and of those that a reduction keeps, a word for each link number and one
 /// more; and parents and new numbers of nodes, a word for each node and one more.
 #[derive(Drop)]
-pub struct Tables<'a> {
-    pub marks: &'a mut [u32],
-    pub chosen: &'a mut [u32],
-    pub parent: &'a mut [u32],
-    pub name: &'a mut [u32],
+pub(crate) struct Tables<'a> {
+    pub(crate) marks: &'a mut [u32],
+    pub(crate) chosen: &'a mut [u32],
+    pub(crate) parent: &'a mut [u32],
+    pub(crate) name: &'a mut [u32],
 }

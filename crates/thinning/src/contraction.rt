@@ -10,6 +10,7 @@ ghost use Rattle.forests.specs.Union.{Falls, Holds};
 ghost use Rattle.thinning.specs.Marks.{Under, Below, marked, stacked};
 ghost use Rattle.thinning.specs.Names.{Renames, through};
 
+use crate::nodes::NodeTables;
 use block_records::{BlockNode, Link};
 use forests::{keep_on, start, unite};
 
@@ -73,15 +74,15 @@ fn number_classes(parent: &[u32], name: &mut [u32]) -> u32
 }
 
 /// The new numbers of the nodes where the ends of some links are merged; says how many there are. No link changes.
-pub(crate) fn number_nodes(merged: &[[u32; 3]], parent: &mut [u32], name: &mut [u32]) -> u32
-    requires size { (0 < length parent.old) × (length parent.old ≤ 2 ^ 32) × (length name.old ≡ length parent.old) }
-    requires ends { Below (length parent.old) (links_in merged.now) }
-    ensures names { Renames (links_in merged.now) name.new (length parent.old) }
-    ensures nodes { result ≡ roots (links_in merged.now) (length parent.old - 1) }
+fn number_nodes(merged: &[[u32; 3]], nodes: &mut NodeTables) -> u32
+    requires ends { Below (length nodes.old.parent.now) (links_in merged.now) }
+    ensures kept { length nodes.new.parent.now ≡ length nodes.old.parent.now }
+    ensures names { Renames (links_in merged.now) nodes.new.name.now (length nodes.old.parent.now) }
+    ensures count { result ≡ roots (links_in merged.now) (length nodes.old.parent.now - 1) }
 {
-    start(parent);
-    join(merged, parent, |_| true);
-    number_classes(parent, name)
+    start(nodes.parent);
+    join(merged, nodes.parent, |_| true);
+    number_classes(nodes.parent, nodes.name)
 }
 
 /// Gives the links' ends their new numbers.
@@ -106,16 +107,16 @@ pub(crate) fn contract(
     links: &mut [[u32; 3]],
     others: &mut [[u32; 3]],
     merged: &[[u32; 3]],
-    parent: &mut [u32],
-    name: &mut [u32],
+    nodes: &mut NodeTables,
 ) -> u32
-    requires size { (0 < length parent.old) × (length parent.old ≤ 2 ^ 32) × (length name.old ≡ length parent.old) }
-    requires ends { Below (length parent.old) (links_in links.old) × Below (length parent.old) (links_in others.old) × Below (length parent.old) (links_in merged.now) }
+    requires ends { Below (length nodes.old.parent.now) (links_in links.old) × Below (length nodes.old.parent.now) (links_in others.old) × Below (length nodes.old.parent.now) (links_in merged.now) }
+    ensures kept { length nodes.new.parent.now ≡ length nodes.old.parent.now }
     ensures links { links_in links.new ≡ relabel (links_in merged.now) (links_in links.old) }
     ensures others { links_in others.new ≡ relabel (links_in merged.now) (links_in others.old) }
-    ensures nodes { result ≡ roots (links_in merged.now) (length parent.old - 1) }
+    ensures count { result ≡ roots (links_in merged.now) (length nodes.old.parent.now - 1) }
 {
-    let n = number_nodes(merged, parent, name);
+    let n = number_nodes(merged, nodes);
+    let name = &*nodes.name;
     rename(links, name);
     rename(others, name);
     n

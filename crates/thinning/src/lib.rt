@@ -11,12 +11,14 @@ ghost use Rattle.thinning.specs.Marks.{flag, Blank, Under, Below, unmarked, Asce
 
 mod contraction;
 mod marks;
+mod nodes;
 mod reduction;
 
 use contraction::{contract, merge};
 use forests::{pick, sort_by_place};
 pub use marks::fill_at;
 use marks::gather;
+use nodes::NodeTables;
 use reduction::reduce;
 
 /// The second half of thinning: from reduced links, with the others in their order, merges and reduces again; says how
@@ -27,22 +29,20 @@ fn finish(
     named: &[u32],
     chosen: &mut [u32],
     merged: &mut [[u32; 3]],
-    parent: &mut [u32],
-    name: &mut [u32],
+    nodes: &mut NodeTables,
 ) -> (u32, usize)
-    requires size { (0 < length parent.old) × (length parent.old ≤ 2 ^ 32) × (length name.old ≡ length parent.old) }
     requires room { length merged.old ≡ length others.old }
     requires named { Under (length named.now) (links_in links.old) }
     requires chosen { Under (length chosen.old) (links_in links.old) × Under (length chosen.old) (links_in others.old) }
-    requires ends { Below (length parent.old) (links_in links.old) × Below (length parent.old) (links_in others.old) }
+    requires ends { Below (length nodes.old.parent.now) (links_in links.old) × Below (length nodes.old.parent.now) (links_in others.old) }
     requires blank { Blank chosen.old }
     ensures blank { Blank chosen.new }
     ensures within { result.1 ≤ length links.old }
-    ensures finished { (lt : ℕ → ℕ → Bool) → Strict lt → Ascends (links_in links.old) → links_in others.old ≡ ordered lt (unmarked named.now (links_in links.old)) → (result.0 ≡ roots (mergeable (flag named.now) lt (links_in links.old)) (length parent.old - 1)) × (take result.1 (links_in links.new) ≡ reduced (flag named.now) lt (relabel (mergeable (flag named.now) lt (links_in links.old)) (links_in links.old))) }
+    ensures finished { (lt : ℕ → ℕ → Bool) → Strict lt → Ascends (links_in links.old) → links_in others.old ≡ ordered lt (unmarked named.now (links_in links.old)) → (result.0 ≡ roots (mergeable (flag named.now) lt (links_in links.old)) (length nodes.old.parent.now - 1)) × (take result.1 (links_in links.new) ≡ reduced (flag named.now) lt (relabel (mergeable (flag named.now) lt (links_in links.old)) (links_in links.old))) }
 {
-    let q = merge(links, others, named, merged, parent);
-    let n = contract(links, others, &merged[..q], parent, name);
-    let (r, _) = reduce(links, others, named, chosen, parent);
+    let q = merge(links, others, named, merged, nodes.parent);
+    let n = contract(links, others, &merged[..q], nodes);
+    let (r, _) = reduce(links, others, named, chosen, nodes.parent);
     (n, r)
 }
 
@@ -53,28 +53,25 @@ fn thin_ordered(
     named: &[u32],
     chosen: &mut [u32],
     merged: &mut [[u32; 3]],
-    parent: &mut [u32],
-    name: &mut [u32],
+    nodes: &mut NodeTables,
 ) -> (u32, usize)
-    requires size { (0 < length parent.old) × (length parent.old ≤ 2 ^ 32) × (length name.old ≡ length parent.old) }
     requires room { length others.old ≤ length merged.old }
     requires named { Under (length named.now) (links_in links.old) }
     requires chosen { Under (length chosen.old) (links_in links.old) × Under (length chosen.old) (links_in others.old) }
-    requires ends { Below (length parent.old) (links_in links.old) × Below (length parent.old) (links_in others.old) }
+    requires ends { Below (length nodes.old.parent.now) (links_in links.old) × Below (length nodes.old.parent.now) (links_in others.old) }
     requires blank { Blank chosen.old }
     ensures blank { Blank chosen.new }
     ensures within { result.1 ≤ length links.old }
-    ensures thinned { (lt : ℕ → ℕ → Bool) → Strict lt → Ascends (links_in links.old) → links_in others.old ≡ ordered lt (unmarked named.now (links_in links.old)) → ◌≡◌ {A = Block} (record { nodes = result.0; links = take result.1 (links_in links.new) }) (thinned (flag named.now) lt (record { nodes = length parent.old - 1; links = links_in links.old })) }
+    ensures thinned { (lt : ℕ → ℕ → Bool) → Strict lt → Ascends (links_in links.old) → links_in others.old ≡ ordered lt (unmarked named.now (links_in links.old)) → ◌≡◌ {A = Block} (record { nodes = result.0; links = take result.1 (links_in links.new) }) (thinned (flag named.now) lt (record { nodes = length nodes.old.parent.now - 1; links = links_in links.old })) }
 {
-    let (r, k) = reduce(links, others, named, chosen, parent);
+    let (r, k) = reduce(links, others, named, chosen, nodes.parent);
     finish(
         &mut links[..r],
         &mut others[..k],
         named,
         chosen,
         &mut merged[..k],
-        parent,
-        name,
+        nodes,
     )
 }
 
@@ -125,6 +122,7 @@ pub fn thin(
     ensures within { result.1 ≤ length links.old }
     ensures thinned { ◌≡◌ {A = Block} (record { nodes = result.0; links = take result.1 (links_in links.new) }) (thinned (flag named.now) (place_before places.now) (record { nodes = length parent.old - 1; links = links_in links.old })) }
 {
+    let mut nodes = NodeTables { parent, name };
     let r = order_others(links, places, named, others, spare.as_flattened_mut());
     thin_ordered(
         links,
@@ -132,7 +130,6 @@ pub fn thin(
         named,
         chosen,
         &mut spare[..r],
-        parent,
-        name,
+        &mut nodes,
     )
 }

@@ -31,14 +31,14 @@ finish-requires-clause-chosen c =
 
 pub finish-requires-clause-ends : goal.finish-requires-clause-ends
 finish-requires-clause-ends c =
-    let n : length c.reduce-r.new.parent ≡ length c.args.parent.now = c.reduce-r.auto.parent in
+    let n : length c.reduce-r.new.parent ≡ length c.args.nodes.now.parent.now = c.reduce-r.auto.parent in
     let r = (goal.at.finish-requires-clause-ends c).After-reduce-r in
     subst (λ x. Below x (links_in (take c.reduce-r.result.0 c.reduce-r.new.links)) × Below x (links_in (take c.reduce-r.result.1 c.reduce-r.new.others))) (sym n)
     (below-filtered _ _ (links_in c.args.links.now) _ (links-left r) c.requires.ends.0, below-greedy _ [] (links_in c.args.others.now) _ (others-left r) c.requires.ends.1)
 
 pub returns-clause-thinned : goal.returns-clause-thinned
 returns-clause-thinned c = λ lt o a h.
-    let n : length c.reduce-r.new.parent ≡ length c.args.parent.now = c.reduce-r.auto.parent in
+    let n : length c.reduce-r.new.parent ≡ length c.args.nodes.now.parent.now = c.reduce-r.auto.parent in
     let L : List Link = links_in c.args.links.now in
     let ns : List ℕ = c.args.named.now in
     let l1 : List Link = links_in (take c.reduce-r.result.0 c.reduce-r.new.links) in
@@ -51,4 +51,4 @@ returns-clause-thinned c = λ lt o a h.
     let f = c.finish.ensures.finished lt o a1 h1 in
     let k = length-map c.finish.new.links link_of in
     let t = ap (take c.finish.result.1) (map-append link_of c.finish.new.links _) ∙ take-append-le c.finish.result.1 (links_in c.finish.new.links) _ (omega (arith, c.finish.ensures.within)) in
-    block-is (flag ns) lt (length c.args.parent.now - 1) L l1 c.finish.result.0 _ e1 (f.0 ∙ ap (λ x. roots (mergeable (flag ns) lt l1) (x - 1)) n) (t ∙ f.1)
+    block-is (flag ns) lt (length c.args.nodes.now.parent.now - 1) L l1 c.finish.result.0 _ e1 (f.0 ∙ ap (λ x. roots (mergeable (flag ns) lt l1) (x - 1)) n) (t ∙ f.1)

@@ -1,4 +1,4 @@
-use Rattle.std.proofs.Common.{◌≡◌, ℕ, ◌+◌, ◌-◌, ◌*◌, ◌^◌, ◌<◌, ◌≤◌, List, [], length, get_or, take, drop, set, sym, refl, ap, ◌∙◌, subst, arith}
+use Rattle.std.proofs.Common.{◌≡◌, ℕ, ◌+◌, ◌-◌, ◌*◌, ◌^◌, ◌<◌, ◌≤◌, List, [], length, get_or, take, drop, sym, refl, ap, ◌∙◌, subst, arith}
 use Rattle.std.proofs.lemmas.List.{length-map, get_or-map, map-set, map-append, take-map, drop-map}
 use Rattle.block_records.specs.declared.Link.{Link}
 use Rattle.block_records.specs.declared.Move.{Move}
@@ -12,7 +12,7 @@ use Rattle.blocks.specs.Block.{no_move, graph_of, Fits}
 use Rattle.blocks.proofs.Halving.{block_of, part-fits, part_small, part-fewer, part-entries, single-moved, single-entry, single-work, work-least, slice-work, slice-entries, slice-moved, first-length, other_length, known-first, known-other, scratch-part, room-part}
 use Rattle.blocks.proofs.Telling.{received, told-up, told-one, told-halves}
 use Rattle.blocks.proofs.block.+block.Goals as goal
-use Rattle.blocks.proofs.block.+block.Goals.{After-prepare-nodes, After-receive-met, After-from-change, After-leaf, After-split_at}
+use Rattle.blocks.proofs.block.+block.Goals.{After-prepare-nodes, After-receive-met, After-from-change, After-leaf-goes, After-split_at}
 
 -- What is left is the thinned graph.
 left : (t : ℕ) (c : After-prepare-nodes t) → block_of c.prepare-nodes.result.0 (links_in (take c.prepare-nodes.result.1 c.prepare-nodes.new.own))
@@ -46,20 +46,20 @@ change t c = c.from-change.ensures ∙ sym (get_or-map move_of c.args.moves.now 
 one : (t : ℕ) (c : After-from-change t) → length (moves_in c.args.moves.now) ≡ 1
 one t c = length-map c.args.moves.now move_of ∙ c.if-moves-eq1.true
 
-placed : (t : ℕ) (c : After-leaf t) → c.leaf.new.places ≡ moved c.args.places.now (get_or (moves_in c.args.moves.now) 0 no_move)
+placed : (t : ℕ) (c : After-leaf-goes t) → c.leaf-goes.new.places ≡ moved c.args.places.now (get_or (moves_in c.args.moves.now) 0 no_move)
 placed t c =
-    c.leaf.ensures.places
+    c.leaf-goes.ensures.places
     ∙ ap (moved c.args.places.now) (c.from-change.ensures ∙ sym (get_or-map move_of c.args.moves.now 0 [] no_move (omega (arith, c.if-moves-eq1.true))))
 
-pub leaf-requires-clause-few : goal.leaf-requires-clause-few
-leaf-requires-clause-few t c = omega (arith, small t (goal.at.leaf-requires-clause-few t c).After-prepare-nodes)
+pub leaf-goes-requires-clause-few : goal.leaf-goes-requires-clause-few
+leaf-goes-requires-clause-few t c = omega (arith, small t (goal.at.leaf-goes-requires-clause-few t c).After-prepare-nodes)
 
-pub leaf-requires-clause-ascends : goal.leaf-requires-clause-ascends
-leaf-requires-clause-ascends t c = (fits t (goal.at.leaf-requires-clause-ascends t c).After-prepare-nodes).ascends
+pub leaf-goes-requires-clause-ascends : goal.leaf-goes-requires-clause-ascends
+leaf-goes-requires-clause-ascends t c = (fits t (goal.at.leaf-goes-requires-clause-ascends t c).After-prepare-nodes).ascends
 
-pub leaf-requires-clause-known : goal.leaf-requires-clause-known
-leaf-requires-clause-known t c =
-    let a = ap (λ (d : Move ℕ). d.link) (change t (goal.at.leaf-requires-clause-known t c).After-from-change) in
+pub leaf-goes-requires-clause-known : goal.leaf-goes-requires-clause-known
+leaf-goes-requires-clause-known t c =
+    let a = ap (λ (d : Move ℕ). d.link) (change t (goal.at.leaf-goes-requires-clause-known t c).After-from-change) in
     let k = c.requires.fits.known 0 c.requires.fits.some in
     (omega (arith, k.0), omega (arith, k.1))
 
@@ -71,7 +71,7 @@ tell-requires-clause-ascends t c = (fits t (goal.at.tell-requires-clause-ascends
 
 pub returns-then-moves-eq1-clause-places : goal.returns-then-moves-eq1-clause-places
 returns-then-moves-eq1-clause-places t c =
-    placed t (goal.at.returns-then-moves-eq1-clause-places t c).After-leaf
+    placed t (goal.at.returns-then-moves-eq1-clause-places t c).After-leaf-goes
     ∙ single-moved c.args.places.now (moves_in c.args.moves.now) (one t (goal.at.returns-then-moves-eq1-clause-places t c).After-from-change)
 
 pub returns-then-moves-eq1-clause-entries : goal.returns-then-moves-eq1-clause-entries
@@ -80,11 +80,10 @@ returns-then-moves-eq1-clause-entries t c =
     let ps : List ℕ = c.args.places.now in
     let cs : List (Move ℕ) = moves_in c.args.moves.now in
     let es2 : List Link = links_in (take c.prepare-nodes.result.1 c.prepare-nodes.new.own) in
-    let e : exchange_of c.into.result ≡ c.leaf.result = ap exchange_of c.into.ensures in
-    map-set exchange_of c.args.out.now 0 c.into.result ∙ ap (set (entries_in c.args.out.now) 0) e
-    ∙ single-entry (entries_in c.args.out.now) ps es2 cs c.leaf.result (one t p.After-from-change)
+    map-set exchange_of c.args.out.now 0 _
+    ∙ single-entry (entries_in c.args.out.now) ps es2 cs c.leaf-goes.result (one t p.After-from-change)
     (length-map c.args.out.now exchange_of ∙ c.requires.room.entries ∙ sym (length-map c.args.moves.now move_of))
-    (c.leaf.ensures.entry ∙ ap (λ (x : Move ℕ). entry (tree_at ps es2) (tree_at (moved ps x) es2)) (change t p.After-from-change))
+    (c.leaf-goes.ensures.entry ∙ ap (λ (x : Move ℕ). entry (tree_at ps es2) (tree_at (moved ps x) es2)) (change t p.After-from-change))
     ∙ sym (part-entries ps (length ps) c.args.graph.nodes (links_in c.args.graph.links.now) cs c.requires.fits _ es2 (left t p.After-prepare-nodes))
 
 pub returns-then-moves-eq1-clause-told : goal.returns-then-moves-eq1-clause-told
@@ -96,7 +95,7 @@ returns-then-moves-eq1-clause-told t c =
     let w = single-work ps (graph_of c.args.graph) cs (one t p.After-from-change) in
     told-up c.args.tally c.receive-met.result c.tell.result 0 _ ps (length ps) c.args.graph.nodes (links_in c.args.graph.links.now) cs c.requires.fits _ es2
     (left t p.After-prepare-nodes) (met t p.After-receive-met) (omega arith)
-    (told-one c.receive-met.result c.tell.result ps c.leaf.new.places es2 cs (one t p.After-from-change) (placed t p.After-leaf) c.tell.ensures)
+    (told-one c.receive-met.result c.tell.result ps c.leaf-goes.new.places es2 cs (one t p.After-from-change) (placed t p.After-leaf-goes) c.tell.ensures)
 
 -- Two changes or more: the halves as code cuts them.
 more : (t : ℕ) (c : After-split_at t) → 2 ≤ length (moves_in c.args.moves.now)

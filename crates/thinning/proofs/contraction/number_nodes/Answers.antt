@@ -19,10 +19,10 @@ held c =
 
 pub returns-clause-names : goal.returns-clause-names
 returns-clause-names c =
-    let n : length c.join.new.parent ≡ length c.args.parent.now = c.join.auto.parent ∙ c.start.auto.parent in
+    let n : length c.join.new.parent ≡ length c.args.nodes.now.parent.now = c.join.auto.parent ∙ c.start.auto.parent in
     subst (Renames (links_in c.args.merged.now) c.number_classes.new.name) n (c.number_classes.ensures (links_in c.args.merged.now) (held (goal.at.returns-clause-names c).After-join)).0
 
-pub returns-clause-nodes : goal.returns-clause-nodes
-returns-clause-nodes c =
-    let n : length c.join.new.parent ≡ length c.args.parent.now = c.join.auto.parent ∙ c.start.auto.parent in
-    (c.number_classes.ensures (links_in c.args.merged.now) (held (goal.at.returns-clause-nodes c).After-join)).1 ∙ ap (λ m. roots (links_in c.args.merged.now) (m - 1)) n
+pub returns-clause-count : goal.returns-clause-count
+returns-clause-count c =
+    let n : length c.join.new.parent ≡ length c.args.nodes.now.parent.now = c.join.auto.parent ∙ c.start.auto.parent in
+    (c.number_classes.ensures (links_in c.args.merged.now) (held (goal.at.returns-clause-count c).After-join)).1 ∙ ap (λ m. roots (links_in c.args.merged.now) (m - 1)) n
