@@ -43,19 +43,6 @@ fits n es l t w e =
       ends = m;
     }
 
-pub fit_none : (n : ℕ) (es : List Ends) (l t w : ℕ) → Fit n es l t w → tables_fault n es l t w ≡ None
-fit_none n es l t w f =
-    let a : (eqb n 0 || ltb 4096 n) ≡ false = (let u = f.some in let v = f.nodes in grind (arith, nat_tests)) in
-    let b : ltb 16384 (length es) ≡ false = (let u = f.links in grind (arith, nat_tests)) in
-    let c : misfit n (length es) l t w ≡ false = (let u = f.same in let v = f.tree in let x = f.work in grind (arith, nat_tests)) in
-    cond-false (eqb n 0 || ltb 4096 n) _ _ a ∙ cond-false (ltb 16384 (length es)) _ _ b ∙ cond-false (misfit n (length es) l t w) _ _ c ∙ ap (option_map no_open) f.ends
-
--- Longer tables fit too.
-pub longer : (n : ℕ) (es : List Ends) (l t w u v : ℕ) → tables_fault n es l t w ≡ None → n - 1 ≤ u → 64 * (n + length es) ≤ v → tables_fault n es l u v ≡ None
-longer n es l t w u v e p q =
-    let f = fits n es l t w e in
-    fit_none n es l u v (record { some = f.some; nodes = f.nodes; links = f.links; same = f.same; tree = p; work = q; ends = f.ends })
-
 -- The two ends of a link that has no fault.
 end-sound : (n k : ℕ) (e : Ends) → end_fault n k e ≡ None → (1 ≤ e.a.0) × (e.a.0 ≤ n) × (1 ≤ e.b.0) × (e.b.0 ≤ n)
 end-sound n k e h =

@@ -52,7 +52,8 @@ impl<'a, 'b, 'c, W: Weight> Book<'a, 'b, 'c, W> {
     }
 }
 
-/// Draws the plan of a batch from a sound network, and moves its links and its tree to the end of the batch.
+/// Draws the plan of a batch from a sound network, and moves its links and its tree to the end of the batch. The tables
+/// come one by one: a link table that lies behind the book's reference is not lent again as a shared one with a proof.
 fn draw_batch<W: Ordered>(
     n: u32,
     ends: &[Ends],
