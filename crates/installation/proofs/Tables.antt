@@ -13,13 +13,13 @@ use Rattle.installation.specs.Memory.{SameTables}
 pub part-ends : (slots s w : ℕ) → s < slots → s * w + w ≤ slots * w
 part-ends slots s w h = let a = mul-le-mul_right w h in let b = suc-mul s w in omega arith
 
-pub part-within : (slots s n : ℕ) → s < slots → s * (n / slots) + n / slots ≤ n
-part-within slots s n h = let a = part-ends slots s (n / slots) h in let b = mul-div-le n slots in omega arith
+pub part_within : (slots s n : ℕ) → s < slots → s * (n / slots) + n / slots ≤ n
+part_within slots s n h = let a = part-ends slots s (n / slots) h in let b = mul-div-le n slots in omega arith
 
 pub part-long : {X : Type 0} (slots s : ℕ) (xs : List X) → s < slots → length (part (width slots xs) s xs) ≡ width slots xs
 part-long slots s xs h =
     length-take-le (width slots xs) (drop (s * width slots xs) xs)
-    (let a = length-drop (s * width slots xs) xs in let b = part-within slots s (length xs) h in omega arith)
+    (let a = length-drop (s * width slots xs) xs in let b = part_within slots s (length xs) h in omega arith)
 
 take-add : {X : Type 0} (n m : ℕ) (xs : List X) → take n xs ++ take m (drop n xs) ≡ take (n + m) xs
 take-add n m xs =
@@ -78,7 +78,7 @@ pub table-put : {X : Type 0} (slots s : ℕ) (written after : ℕ → Option (Li
     → Table slots after was (put_mid (s * width slots was) (width slots was) now ys)
 table-put slots s written after was now ys h long here others t =
     let w = width slots was in
-    let fits : s * w + w ≤ length now = let a = part-within slots s (length was) h in let b = t.long in omega arith in
+    let fits : s * w + w ≤ length now = let a = part_within slots s (length was) h in let b = t.long in omega arith in
     let off : (r : ℕ) → r < slots → (r ≡ s → ⊥) → part w r (put_mid (s * w) w now ys) ≡ part w r now
     → part w r (put_mid (s * w) w now ys) ≡ or_kept (after r) (part w r was) =
     λ r l n e. e ∙ t.part-is r l ∙ ap (λ (o : Option (List _)). or_kept o (part w r was)) (sym (others r n)) in

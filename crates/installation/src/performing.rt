@@ -40,6 +40,8 @@ struct Next {
     answer: Answer,
 }
 
+// Book, memory and fabric stay apart: a program lends each for itself, and has it back after the last call.
+
 /// Makes one call.
 fn make<W: Weight, F: Fabric>(
     call: Call,

@@ -4,6 +4,7 @@ ghost use Rattle.std.specs.Prelude.{◌≡◌, ◌+◌, ◌*◌, ◌/◌, ◌<�
 // Without a heap a slot has no tables of its own: its plan lies in its parts of two lent ones.
 
 /// From where to where a slot's part of a table goes.
+#[tactic(auto, using(crate::proofs::Tables::part_within))]
 pub(crate) fn part_of(slot: usize, slots: usize, len: usize) -> (usize, usize)
     requires { slot < slots }
     ensures from { result.0 ≡ slot * (len / slots) }

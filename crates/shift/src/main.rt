@@ -66,6 +66,7 @@ fn play<W: Weight, F: Fabric>(
         tree: tree.as_mut_slice(),
     };
     let mut book = Book::open(tables, work.as_mut_slice());
+    // The code is printed before the program ends as refused, so `?` would be no plainer.
     if let Some(fault) = book.refusal() {
         println!(rt; "open: refused {}", Fault::from(fault).code)?;
         return Err(anyhow!("refused"));
