@@ -29,7 +29,9 @@ pub struct Room {
 
 impl Room {
     /// Takes all the memory that reading any text can need. Nothing else of a reading asks for memory.
-    pub fn reserve(heap: Global) -> Result<Room, AllocError> {
+    pub fn reserve(heap: Global) -> Result<Room, AllocError>
+        ensures { IfOk result (λ r. Reserved r.costs × Reserved r.classes) }
+    {
         Ok(Room {
             numbers: Vec::with_capacity(heap, MAX_BYTES)?,
             costs: Tables::reserve(heap)?,
