@@ -7,7 +7,7 @@ use forests::Ranking;
 use network::LinkState;
 use weights::{Ordered, Side, Standing};
 
-/// How a link stands: absent, or present at its weight.
+/// How a link stands: absent, or present at its weight. No impl of From: both types are of crates below.
 pub(crate) fn standing<W: Ordered>(link: &LinkState<W>) -> Standing<W>
     ensures { result ≡ standing_of link.now }
 {
