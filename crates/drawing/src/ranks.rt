@@ -1,5 +1,5 @@
 //! The order of a network's links as a ranking.
-ghost use Rattle.std.specs.Prelude.{◌≡◌, ℕ, suc, ◌^◌, Bool, length, nat_lt};
+ghost use Rattle.std.specs.Prelude.{◌≡◌, suc, length};
 ghost use Rattle.plans.specs.Network.{link_before, standing_of};
 ghost use Rattle.drawing.specs.Ranks.{ranks-links};
 
