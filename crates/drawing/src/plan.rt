@@ -1,7 +1,7 @@
 //! The plan of a batch, worked out in the work area.
-ghost use Rattle.std.specs.Prelude.{◌≡◌, ℕ, ◌+◌, ◌*◌, ◌<◌, ◌≤◌, true, false, ltb, length, if◌then◌else◌, None, OnOk};
+ghost use Rattle.std.specs.Prelude.{◌≡◌, ◌+◌, ◌*◌, ◌≤◌, true, false, ltb, length, if◌then◌else◌, OnOk};
 ghost use Rattle.block_records.specs.Words.{moves_in, entries_in};
-ghost use Rattle.network.specs.Ends.{first_end_fault, or_else};
+ghost use Rattle.network.specs.Ends.{or_else};
 ghost use Rattle.drawing.specs.Tables.{joined};
 ghost use Rattle.plans.specs.Network.{graph_of, parted_at, plan, work_count};
 ghost use Rattle.plans.specs.Plan.{entries};
@@ -13,11 +13,11 @@ ghost use Rattle.places.specs.Moves.{Known, place_moves};
 
 use crate::sound::Network;
 use crate::tree::lay_out;
+use block_records::Move;
+use blocks::Graph;
 use faults::DrawFault;
 use network::Change;
 use places::{Pool, link_of, place_pool, trace};
-use block_records::Move;
-use blocks::Graph;
 use weights::Ordered;
 
 /// Writes the moves of a batch: each change's link and its place after it.

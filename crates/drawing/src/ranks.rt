@@ -1,22 +1,11 @@
 //! The order of a network's links as a ranking.
-ghost use Rattle.std.specs.Prelude.{◌≡◌, ℕ, suc, ◌^◌, Bool, length, nat_lt};
-ghost use Rattle.plans.specs.Network.{link_before, standing_of};
+ghost use Rattle.std.specs.Prelude.{suc, length};
+ghost use Rattle.plans.specs.Network.{link_before};
 ghost use Rattle.drawing.specs.Ranks.{ranks-links};
 
 use forests::Ranking;
 use network::LinkState;
 use weights::{Ordered, Side, Standing};
-
-/// How a link stands: absent, or present at its weight.
-pub(crate) fn standing<W: Ordered>(link: &LinkState<W>) -> Standing<W>
-    ensures { result ≡ standing_of link.now }
-{
-    if link.present {
-        Standing::At(link.weight)
-    } else {
-        Standing::Absent
-    }
-}
 
 /// The links of a table, index i for link i + 1, by standing and then number.
 #[derive(Drop)]
@@ -30,8 +19,8 @@ impl<W: Ordered> Ranking for ByStanding<'_, W> {
     ghost before = { λ r i j. link_before W.Ordered.side r.links.now (suc i) (suc j) };
 
     fn precedes(&self, i: u32, j: u32) -> bool {
-        let u = standing(&self.links[i as usize]);
-        let v = standing(&self.links[j as usize]);
+        let u = Standing::from(self.links[i as usize]);
+        let v = Standing::from(self.links[j as usize]);
         match u.side_of(&v) {
             Side::Before => true,
             Side::Level => i < j,

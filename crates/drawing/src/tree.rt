@@ -1,5 +1,5 @@
 //! The least tree of the present links.
-ghost use Rattle.std.specs.Prelude.{◌≡◌, ℕ, ◌+◌, ◌-◌, ◌*◌, ◌^◌, ◌<◌, ◌≤◌, map, length, take, if◌then◌else◌, None, slice_index};
+ghost use Rattle.std.specs.Prelude.{◌≡◌, ℕ, ◌+◌, ◌-◌, ◌*◌, ◌^◌, ◌<◌, ◌≤◌, map, length, take, if◌then◌else◌, slice_index};
 ghost use Rattle.forests.specs.Heap.{Indexes};
 ghost use Rattle.block_records.specs.Words.{links_in};
 ghost use Rattle.graphs.specs.Forest.{Distinct, ordered};

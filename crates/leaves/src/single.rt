@@ -1,6 +1,6 @@
 //! A block of one change: its thinned graph has at most two links, so what the change exchanges is told by one comparison
 //! before it and one after.
-ghost use Rattle.std.specs.Prelude.{◌≡◌, ℕ, ◌+◌, ◌≤◌, length};
+ghost use Rattle.std.specs.Prelude.{◌≡◌, ◌≤◌, length};
 ghost use Rattle.std.specs.List.{list_any};
 ghost use Rattle.block_records.specs.Words.{link_of, links_in};
 ghost use Rattle.plans.specs.Places.{moved};

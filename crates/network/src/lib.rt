@@ -2,6 +2,7 @@
 #![tactic(auto)]
 
 mod ends;
+mod standing;
 mod types;
 
 pub use ends::check_ends;

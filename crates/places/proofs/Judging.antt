@@ -1,17 +1,19 @@
 -- What the states of links say of a change.
-use Rattle.std.proofs.Common.{◌≡◌, ℕ, zero, suc, ◌+◌, ◌-◌, ◌<◌, ◌≤◌, Bool, true, false, cond, not, ◌||◌, eqb, ltb, List, [], ◌∷◌, length, get_or, Some, None, sym, refl, ap, ◌∙◌, arith}
+use Rattle.std.proofs.Common.{◌≡◌, ℕ, zero, suc, ◌+◌, ◌-◌, ◌<◌, ◌≤◌, Bool, true, false, cond, not, ◌||◌, eqb, ltb, List, [], ◌∷◌, length, get_or, Some, None, Ok, Err, sym, refl, ap, ◌∙◌, arith}
 use Rattle.std.proofs.lemmas.List.{length-map}
 use Rattle.std.proofs.lemmas.Bool.{cond-true, cond-false, eq-eqb, ne_eqb, or_from, le-ltb}
 use Rattle.std.proofs.lemmas.Bool.Decides.{nat_tests}
+use Rattle.faults.specs.declared.DrawFault.{DrawFault}
 use Rattle.faults.specs.declared.DrawFault.TheVariants.{LinkOutside, RemoveAbsent}
 use Rattle.weights.specs.declared.standing.Standing.TheVariants.{Absent}
 use Rattle.network.specs.declared.types.LinkState.{LinkState}
 use Rattle.network.specs.declared.types.Change.{Change}
 use Rattle.network.specs.declared.types.Change.TheVariants.{Set, Remove, Flip}
+use Rattle.network.proofs.Refusing.{refusal-is}
 use Rattle.plans.specs.Places.{value_of}
 use Rattle.plans.specs.Network.{standing_if, standings, standing_at, is_at, link_of, altered, altered_link, changed_link, changed}
 use Rattle.places.specs.Changes.{remove_fault, change_fault, changes_fault}
-use Rattle.places.specs.Pool.{state_of, states}
+use Rattle.places.specs.Pool.{Judged, state_of, states}
 use Rattle.places.proofs.Refusals.{cond-none, or_else-none}
 
 pub states-length : {W : Type 0} (links : List (LinkState W)) → length (states links) ≡ length links
@@ -59,6 +61,15 @@ module _ {W : Type 0} (i : ℕ) (links : List (LinkState W)) where
   judged-present (Remove k) n e lo hi s =
       sym (judged-inside (Remove k) lo hi ∙ cond-true _ _ _ (state-at links k lo hi ∙ ap not (ne_eqb _ _ s)))
   judged-present (Flip k) n e lo hi s = absurd (let z : ◌≡◌ {A = ℕ} 0 1 = cc in omega arith)
+
+-- What an answer says of the change.
+pub judged-granted : {W : Type 0} (i : ℕ) (c : Change W) (present : List ℕ) (links : List (LinkState W)) → Judged i c present (Ok tt) → present ≡ states links
+    → None ≡ change_fault i links c
+judged-granted i c present links j s = refusal-is (Ok tt) (change_fault i links c) tt (j links s)
+
+pub judged-refused : {W : Type 0} (i : ℕ) (c : Change W) (present : List ℕ) (links : List (LinkState W)) (f : DrawFault) → Judged i c present (Err f) → present ≡ states links
+    → Some f ≡ change_fault i links c
+judged-refused i c present links f j s = refusal-is (Err f) (change_fault i links c) tt (j links s)
 
 altered-length : {A : Type 0} (f : A → A) (xs : List A) (k : ℕ) → length (altered f xs k) ≡ length xs
 unfolding altered

@@ -1,5 +1,5 @@
 //! Changes of links, made in a link table.
-ghost use Rattle.std.specs.Prelude.{◌≡◌, ℕ, ◌≤◌, length};
+ghost use Rattle.std.specs.Prelude.{◌≡◌, ◌≤◌, length};
 ghost use Rattle.plans.specs.Network.{link_of, changed_link, changed, changed_by};
 ghost use Rattle.places.specs.Moves.{Known};
 

@@ -2,7 +2,7 @@
 use crate::helpers::*;
 use faults::{Fault, Layer};
 use network::{Change, LinkState};
-use planner::{Book, Tables};
+use planner::{Book, Drawn, Tables};
 use std::process::Abort;
 use std::test::Fail;
 use weights::{Class, Cost};
@@ -26,7 +26,13 @@ fn four_switches(rt: HostRuntime) -> Result<(), Fail> {
         entries: &mut entries,
     };
     let drawn = open_and_draw(4, &four_ends(), &mut links, &batch, out, &mut [0u32; 896])?;
-    assert!(rt; drawn.n == 4 && drawn.m == 5 && drawn.k == 5 && drawn.work == 39);
+    let counts = Drawn {
+        n: 4,
+        m: 5,
+        k: 5,
+        work: 39,
+    };
+    assert_eq!(rt; drawn, counts);
     assert_eq!(rt; start, [1u32, 2, 3, 9]);
     assert_eq!(rt;
         entries,
@@ -83,7 +89,13 @@ fn one_node(rt: HostRuntime) -> Result<(), Fail> {
         entries: &mut entries,
     };
     let drawn = open_and_draw(1, &[], &mut links, &[], out, &mut [0u32; 64])?;
-    assert!(rt; drawn.n == 1 && drawn.m == 0 && drawn.k == 0 && drawn.work == 0);
+    let counts = Drawn {
+        n: 1,
+        m: 0,
+        k: 0,
+        work: 0,
+    };
+    assert_eq!(rt; drawn, counts);
     assert_eq!(rt; start, [9u32]);
     assert_eq!(rt; tree, [9u32]);
     assert_eq!(rt; entries, [(9u32, 9u32)]);

@@ -10,6 +10,7 @@ use Rattle.network.specs.declared.types.Ends.{Ends}
 use Rattle.network.specs.declared.types.LinkState.{LinkState}
 use Rattle.network.specs.declared.types.Change.{Change}
 use Rattle.network.specs.declared.types.Change.TheVariants.{Set, Remove, Flip}
+pub use Rattle.network.specs.Standings.{standing_if, standing_of}
 use Rattle.block_records.specs.declared.Link.{Link}
 use Rattle.graphs.specs.Forest.{forest, filtered}
 use Rattle.graphs.specs.Spanning.{all_joined}
@@ -45,14 +46,7 @@ is_level Before = false
 is_level Level = true
 is_level After = false
 
--- How a link stands: at its weight, or absent.
-abbrev pub standing_if : {W : Type 0} → Bool → W → Standing W
-standing_if true w = At w
-standing_if false w = Absent
-
-abbrev pub standing_of : {W : Type 0} → LinkState W → Standing W
-standing_of l = standing_if l.present l.weight
-
+-- How the links of a table stand.
 abbrev pub standings : {W : Type 0} → List (LinkState W) → List (Standing W)
 standings links = map (λ (l : LinkState _). standing_of l) links
 

@@ -73,7 +73,14 @@ fn draw_batch<W: Ordered>(
     ensures truth { Truth W.Ordered.side n ends.now links.old batch.now result }
     ensures sound { is_some (network_fault n ends.now links.new (length tree.new)) ≡ false }
 {
-    check_sizes(n, ends.len(), batch.len(), start.len(), entries.len(), work.len())?;
+    check_sizes(
+        n,
+        ends.len(),
+        batch.len(),
+        start.len(),
+        entries.len(),
+        work.len(),
+    )?;
     let (out, rest) = work.split_at_mut(batch.len() * 2);
     let (out, _) = out.as_chunks_mut::<2>();
     let network = Network { n, ends, links };
