@@ -217,7 +217,11 @@ impl From<PlayerFault> for Fault {
             PlayerFault::OtherSize => Fault::new(Layer::Player, 30, 0),
             PlayerFault::NotBlank => Fault::new(Layer::Player, 31, 0),
             PlayerFault::NoEntry(moment) => Fault::new(Layer::Player, 32, moment),
-            PlayerFault::Refused(fabric) => Fault::new(Layer::Player, 33, Fault::from(fabric).place),
+            PlayerFault::Refused(fabric) => Fault::new(
+                Layer::Player,
+                33,
+                Fault::from(fabric).place,
+            ),
             PlayerFault::OtherPlan => Fault::new(Layer::Player, 34, 0),
         }
     }
