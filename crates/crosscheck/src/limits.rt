@@ -1,6 +1,4 @@
 //! The largest sizes, and one more.
-ghost use Rattle.std.specs.Prelude.{◌<◌};
-
 use crate::cases::{case, flip, four_switches, link, remove, set};
 use crate::failure::Failure;
 use crate::group::Group;
@@ -24,20 +22,19 @@ fn cost_of(i: u32) -> u32 {
 }
 
 /// The number of the node that is so many steps after another on a ring of n nodes. The other is counted from 0.
-fn after(n: u32, node: u32, steps: u32) -> u32
-    requires { 0 < n }
-{
-    (node.saturating_add(steps) % n).saturating_add(1)
+fn after(n: u32, node: u32, steps: u32) -> u32 {
+    node.saturating_add(steps)
+        .checked_rem(n)
+        .unwrap_or(0)
+        .saturating_add(1)
 }
 
 /// m links among n nodes: rings over all nodes with steps of 1, 2, 3 and so on.
-fn rings(heap: Global, n: u32, m: u32) -> Result<Vec<Link>, AllocError>
-    requires { 0 < n }
-{
+fn rings(heap: Global, n: u32, m: u32) -> Result<Vec<Link>, AllocError> {
     (0..m)
         .map(|i| {
-            let steps = (i / n).saturating_add(1);
-            link(after(n, i % n, 0), after(n, i % n, steps), cost_of(i))
+            let steps = i.checked_div(n).unwrap_or(0).saturating_add(1);
+            link(after(n, i, 0), after(n, i, steps), cost_of(i))
         })
         .collect(heap)
 }
