@@ -20,6 +20,7 @@ fn present_links<W: Ordered>(links: &[LinkState<W>], order: &mut [u32]) -> usize
     ensures within { result ≤ length links.now }
     ensures present { take result order.new ≡ present_indexes 0 links.now }
 {
+    // By a count: an iterator that writes `order` beside another says nothing of what it wrote.
     let mut p = 0;
     for (i, link) in links.iter().enumerate() {
         if link.present {

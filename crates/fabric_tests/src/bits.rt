@@ -1,4 +1,5 @@
-//! A make of a buyer's own: one bit for each link, packed in lent words of 32 bits.
+//! A make of a buyer's own: one bit for each link, packed in lent words of 32 bits. It stands by itself, as a buyer's would,
+//! and so repeats what the link map does.
 
 ghost use Rattle.std.specs.Prelude.{◌≡◌, ◌-◌, ◌*◌, ◌<◌, ◌≤◌, false, length, OnErr, OnOk, slice_index_or};
 ghost use Rattle.fabrics.specs.Blank.{Begins};

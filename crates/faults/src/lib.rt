@@ -17,7 +17,7 @@ pub enum Layer {
 }
 
 /// A refusal as it is reported: the layer of the call that found it, its code, and the place: a link, a change or a
-/// moment by number, or 0.
+/// moment by number, or 0. In code a ground is a case of an enum; its number is for reports and documents.
 #[derive(Clone, Copy, PartialEq, Eq, Debug)]
 pub struct Fault {
     pub layer: Layer,

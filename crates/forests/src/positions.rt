@@ -9,6 +9,7 @@ pub fn pick(links: &[[u32; 3]], order: &[u32], out: &mut [[u32; 3]])
     requires room { length out.old ≡ length order.now }
     ensures { links_in out.new ≡ map (link_in links.now) order.now }
 {
+    // By index: an iterator that writes `out` beside another says nothing of what it wrote.
     for (k, i) in order.iter().enumerate() {
         out[k] = links[*i as usize];
     }

@@ -14,6 +14,7 @@ pub(crate) fn find(parent: &mut [u32], x: u32) -> u32
     ensures top { slice_index parent.new result ≡ result }
     ensures finds { (es : List Link) → Holds es parent.old → (result ≡ label es x) × Holds es parent.new }
 {
+    // By number: a walk up a tree whose parents stand in lent words, on which it writes.
     let mut at = x;
     let mut up = parent[x as usize];
     while up != at {
@@ -55,8 +56,6 @@ pub fn start(parent: &mut [u32])
 
 /// Its contract is a theorem: in a table that holds the classes of links, the root reached from a node is the smallest
 /// node that the links join to it, and a falling table of which that is so holds those classes.
-pub fn roots_are_labels() -> u8
+pub fn roots_are_labels()
     ensures { RootsAreLabels }
-{
-    0
-}
+{}

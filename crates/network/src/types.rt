@@ -11,7 +11,7 @@ pub struct Ends {
     pub b: Node,
 }
 
-/// A link's weight and state. An absent link keeps its weight.
+/// A link's weight and state. An absent link keeps its weight, so that the two are no Option.
 #[derive(Clone, Copy, PartialEq, Eq, Debug)]
 pub struct LinkState<W> {
     pub weight: W,

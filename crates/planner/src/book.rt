@@ -17,6 +17,7 @@ pub struct Book<'a, 'b, 'c, W: Weight> {
     ends: &'a [Ends],
     links: &'b mut [LinkState<W>],
     tree: &'c mut [u32],
+    // A refused book is no Err: it holds its tables until close, and each draw on it answers this fault.
     refusal: Option<OpenFault>,
     ghost sound: { is_some refusal ≡ false → is_some (network_fault n ends.now links.now (length tree.now)) ≡ false },
 }

@@ -25,6 +25,7 @@ pub struct Between {
 }
 
 /// A player handed back by a refused call, with the fault.
+// The player goes into the Err: so a refusal is passed on by a match, since `?` would let the player go.
 pub struct Kept<P> {
     pub player: P,
     pub fault: PlayerFault,

@@ -18,6 +18,7 @@ use weights::Weight;
 /// Bytes enough to tell that a text is too long.
 const ENOUGH: u64 = 4097;
 
+// As the text tool begins: the library of texts reads no input, and no closure is generic over the kind of weights.
 fn main(rt: HostRuntime) -> anyhow::Result<()> {
     let mut input = Vec::new(rt.alloc());
     rt.stdin().take(ENOUGH).read_to_end(&mut input)?;

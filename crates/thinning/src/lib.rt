@@ -21,6 +21,9 @@ use marks::gather;
 use nodes::NodeTables;
 use reduction::reduce;
 
+// `named` and `chosen` stay two parameters: a struct of both would have to tell at each write of `chosen` that `named`, which
+// is only read, stays.
+
 /// The second half of thinning: from reduced links, with the others in their order, merges and reduces again; says how
 /// many nodes and links are left.
 fn finish(

@@ -1,4 +1,5 @@
-//! Links told apart by marks: a word for each link number, 1 for marked.
+//! Links told apart by marks: a word for each link number, 1 for marked. Marks are words, since the work area is lent as
+//! words.
 ghost use Rattle.std.specs.Prelude.{◌≡◌, ℕ, ◌^◌, ◌<◌, ◌≤◌, cond, map, length, take, slice_index, EachIndex};
 ghost use Rattle.graphs.specs.Forest.{filtered};
 ghost use Rattle.graphs.specs.Thin.{either};
@@ -27,6 +28,7 @@ pub(crate) fn gather(links: &[[u32; 3]], marks: &[u32], order: &mut [u32]) -> us
     ensures indexes { (j : ℕ) → j < result → slice_index order.new j < length links.now }
     ensures others { map (link_in links.now) (take result order.new) ≡ unmarked marks.now (links_in links.now) }
 {
+    // By a count: an iterator that writes `order` beside another says nothing of what it wrote.
     let mut k = 0;
     for (i, words) in links.iter().enumerate() {
         let link = Link::from(*words);
