@@ -4,6 +4,8 @@
 
 ghost use Rattle.graphs.specs.Theorems.{JoinsDecided, ForestKept, LinksCounted, LoopFreeFew, ForestLeast, TreesSpanning, ThinningKeeps};
 
+pub use block_records::{BlockNode, Link};
+
 /// Two nodes are joined exactly if a walk leads from one to the other, and a node's label is the smallest joined to it.
 pub fn joins_decided()
     ensures { JoinsDecided }

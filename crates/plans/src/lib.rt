@@ -5,6 +5,7 @@
 ghost use Rattle.plans.specs.Theorems.{TreeLeast, AbsentLast, MovesStandings, PlansReplay, BlocksHalve, WorkBounded, SameOrder};
 ghost use Rattle.plans.specs.Worked.{Worked};
 
+pub use block_records::Move;
 use weights::Ordered;
 
 /// The least tree is a spanning tree of the present links, and up to each link no spanning tree of them has more links.
