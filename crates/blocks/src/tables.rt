@@ -7,6 +7,8 @@ pub struct Graph<'a> {
     pub links: &'a [[u32; 3]],
 }
 
+// Their lengths stay in clauses: they depend on the nodes and links of each block. Moves, entries and work area are cut for each
+// half, and so are no part of it.
 /// Marks of the links that a block's changes name and of those that a reduction keeps, a word for each link number and one
 /// more; and parents and new numbers of nodes, a word for each node and one more.
 #[derive(Drop)]

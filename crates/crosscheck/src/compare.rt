@@ -100,11 +100,8 @@ impl Group {
         self.tally
             .expect(loan.has_links(case.links.as_slice())?, Finding::Links);
         let opened = answered(forecast::open(self.heap, case))?;
-        let same = match &opened {
-            Ok(_) => heard.is_ok(),
-            Err(refusal) => heard == Err(Fault::from(*refusal)),
-        };
-        self.tally.expect(same, Finding::OpenAnswer);
+        let wanted = opened.as_ref().map(|_| ()).map_err(|e| Fault::from(*e));
+        self.tally.expect(heard == wanted, Finding::OpenAnswer);
         let tree = tree_front(self.heap, opened)?;
         let table = loan.opening.tree.as_slice();
         self.tally

@@ -64,6 +64,7 @@ impl From<PlayerFault> for Broken {
 }
 
 /// Ends a refused player.
+// One impl for each state: the two end by methods of different names, and a trait over them would be longer.
 impl From<Kept<Steady>> for Broken {
     fn from(kept: Kept<Steady>) -> Broken {
         let Kept { player, fault } = kept;

@@ -97,6 +97,7 @@ pub struct Recipe {
     pub care: Care,
 }
 
+// `heap` and `random` come with each call: one generator makes many recipes and goes on through them.
 impl Recipe {
     /// Any recipe for m links.
     pub fn any(random: &mut Random, m: u32, classes: u32) -> Recipe {

@@ -37,6 +37,7 @@ fn list_moves<W: Ordered>(batch: &[Change<W>], targets: &[u32], moves: &mut [[u3
 impl<W: Ordered> Network<'_, '_, W> {
     /// Works a batch out by places: writes the entries, and answers the work count or the change after which the present
     /// links no longer join all nodes.
+    // The batch stays a slice with its bound in a clause: a struct for one bound would be made and taken apart in each crate.
     fn run(
         &self,
         batch: &[Change<W>],

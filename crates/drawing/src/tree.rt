@@ -65,6 +65,7 @@ fn list_numbers(links: &[[u32; 3]], out: &mut [u32])
 
 impl<W: Ordered> Network<'_, '_, W> {
     /// Puts the links of these indexes into their order, by standing and then number, and writes them out.
+    // order, names and out are three tables of three lengths, cut from the work area, and out alone is read afterwards.
     fn sort_links(&self, order: &mut [u32], names: &mut [u32], out: &mut [[u32; 3]])
         requires room { length out.old ≡ length order.old }
         requires within { Indexes order.old (length self.now.ends.now) }

@@ -14,8 +14,5 @@ pub fn wipe(m: u32, bytes: &mut [u8]) -> Result<(), BlankFault>
     ensures memory { MatchResult result (λ _. bytes.new ≡ blanked m bytes.old) (λ _. bytes.new ≡ bytes.old) }
 {
     let map = LinkMap::blank(m, bytes);
-    match map.refusal() {
-        None => Ok(()),
-        Some(fault) => Err(fault),
-    }
+    map.refusal().map_or(Ok(()), Err)
 }

@@ -108,6 +108,7 @@ pub enum PlayerFault {
 }
 
 /// Why a text is refused, with the line; line 0 where the whole text has too many bytes.
+// Not an Option: 0 is what the refusal's line prints there.
 #[derive(Clone, Copy, PartialEq, Eq, Debug)]
 pub enum TextFault {
     /// The line is not one of the format.

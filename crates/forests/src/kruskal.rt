@@ -17,8 +17,8 @@ pub fn keep_on(links: &mut [[u32; 3]], parent: &mut [u32]) -> usize
     ensures kept { (K : List Link) → Holds K parent.old → take result (links_in links.new) ≡ greedy K (links_in links.old) }
 {
     let mut k = 0;
-    // By index: the links kept are written into the table that is read. Not one function with thinning's `retain`, whose test
-    // stays the same while it goes.
+    // By index: the links kept are written into the table that is read. Not one function with thinning's `retain`: the
+    // test here changes as it goes, and a closure for both would need clauses on what it has changed.
     for i in 0..links.len() {
         let link = Link::from(links[i]);
         if unite(parent, link.a.0, link.b.0) {

@@ -35,7 +35,7 @@ fn state_after<W: Ordered>(change: &Change<W>, state: u32) -> u32
     match change {
         Change::Set(_, _) => 1,
         Change::Remove(_) => 0,
-        Change::Flip(_) => { if state == 0 { 1 } else { 0 } }
+        Change::Flip(_) => u32::from(state == 0),
     }
 }
 

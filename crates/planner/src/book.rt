@@ -9,6 +9,7 @@ use weights::Weight;
 mod draw;
 mod open;
 
+// Not a Tables inside: every clause of open, draw and installation would name its tables one step further in.
 /// A network over lent tables, opened or refused. Where its open was granted, the network is sound: its counts, tables
 /// and ends are in range and its present links join all nodes.
 #[derive(Drop)]

@@ -2,6 +2,7 @@
 use network::{Ends, LinkState};
 use weights::Weight;
 
+// Ends and links are two tables: the ends are only read, and a port table is lent the same ones.
 /// The tables of a network of n nodes: the ends of its links, their weights and states, and the tree table, which the
 /// book keeps the least tree in. Tables may be longer than needed where the refusals allow it.
 #[derive(Drop)]

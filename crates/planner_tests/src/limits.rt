@@ -19,8 +19,9 @@ fn rings(heap: Global, m: u32) -> Result<Vec<Ends>, AllocError> {
         .collect(heap)
 }
 
-/// Checks whether n nodes are opened with m links, and with a tree table of 4,096 numbers that all become links or stand.
-fn open(rt: &impl Abort, heap: Global, n: u32, m: u32, code: u32) -> Result<(), Fail> {
+/// Checks whether n nodes are opened with m links, or refused with this code; with a tree table of 4,096 numbers that all become
+/// links or stand.
+fn open(rt: &impl Abort, heap: Global, n: u32, m: u32, code: Option<u32>) -> Result<(), Fail> {
     let ends = rings(heap, m)?;
     let mut links = vec![in heap; at(5); m as usize]?;
     let mut tree = vec![in heap; 0u32; 4096]?;
@@ -35,28 +36,27 @@ fn open(rt: &impl Abort, heap: Global, n: u32, m: u32, code: u32) -> Result<(), 
             },
             &mut work,
         );
-        if code == 0 {
-            assert!(rt; book.refusal().is_none());
-        } else {
-            not_opened(rt, book.refusal(), code, 0);
+        match code {
+            None => assert!(rt; book.refusal().is_none()),
+            Some(code) => not_opened(rt, book.refusal(), code, 0),
         }
     }
     assert!(rt; tree.len() == 4096);
-    assert_eq!(rt; tree[0], if code == 0 { 1 } else { 0 });
-    assert_eq!(rt; tree[4094], if code == 0 { 4095 } else { 0 });
+    assert_eq!(rt; tree[0], if code.is_none() { 1 } else { 0 });
+    assert_eq!(rt; tree[4094], if code.is_none() { 4095 } else { 0 });
     assert_eq!(rt; tree[4095], 0);
     Ok(())
 }
 
 #[test]
 fn most_nodes(rt: HostRuntime) -> Result<(), Fail> {
-    open(&rt, rt.alloc(), 4096, 4095, 0)?;
-    open(&rt, rt.alloc(), 4096, 4094, 15)?;
-    open(&rt, rt.alloc(), 4097, 4096, 10)
+    open(&rt, rt.alloc(), 4096, 4095, None)?;
+    open(&rt, rt.alloc(), 4096, 4094, Some(15))?;
+    open(&rt, rt.alloc(), 4097, 4096, Some(10))
 }
 
 #[test]
 fn most_links(rt: HostRuntime) -> Result<(), Fail> {
-    open(&rt, rt.alloc(), 4096, 16384, 0)?;
-    open(&rt, rt.alloc(), 4096, 16385, 11)
+    open(&rt, rt.alloc(), 4096, 16384, None)?;
+    open(&rt, rt.alloc(), 4096, 16385, Some(11))
 }

@@ -44,6 +44,7 @@ fn four_switches(rt: HostRuntime) -> Result<(), Fail> {
 }
 
 /// A plant of one entry: its work, start link, entry and link of the tree after it.
+// Not one function with `parallel`: the work area is just as long as these sizes ask, and a const argument is not computed.
 fn one_change(
     rt: &impl Abort,
     links: &mut [LinkState<Cost>],

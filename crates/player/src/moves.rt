@@ -42,6 +42,8 @@ fn bring<F: Fabric>(fabric: &mut F, link: u32) -> Result<(), PlayerFault>
     Ok(())
 }
 
+// A refusal is passed on by a match: `?` would let the player go, and a closure would take it. What a call leaves (`kept`,
+// `same`) are clauses of each call, so that a caller cites them by the call.
 impl Steady {
     /// Refuses a plan that is not like the one that the player was laid from.
     fn check(&self, plan: &Plan) -> Result<(), PlayerFault>

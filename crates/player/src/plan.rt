@@ -20,6 +20,7 @@ pub struct Plan<'s, 'e> {
 }
 
 /// The counts of a plan: nodes, links and changes.
+// Plan keeps the three as fields of its own: a nested struct is no plainer where a plan is written out.
 #[derive(Clone, Copy, PartialEq, Eq)]
 pub(crate) struct Counts {
     pub n: u32,

@@ -113,7 +113,8 @@ mod tests {
         Ok(())
     }
 
-    // The fault of playing a plan on a blank map of so many links, with the fabric's behind it.
+    // The fault of playing a plan on a blank map of so many links, with the fabric's behind it. A grant that no test expects is a
+    // fault that no test expects.
     fn refusal(plan: &Plan, m: u32, forwards: u32, backwards: u32) -> (Fault, Fault) {
         let mut bytes = [0u8; 8];
         let mut map = LinkMap::blank(m, &mut bytes);

@@ -8,6 +8,8 @@ ghost use Rattle.port_layout.specs.Ports.{taken};
 use crate::cells::{read, write};
 
 /// How many chains there are, and how many records.
+// The bytes come with each call: a struct that held them would have to tell in each method that sizes and lent memory stay.
+// Records are plain numbers from 1.
 #[derive(Clone, Copy)]
 pub(crate) struct Chains {
     pub heads: usize,

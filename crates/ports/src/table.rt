@@ -104,6 +104,7 @@ impl<'e, 'a> PortTable<'e, 'a> {
     }
 
     /// Puts both records of the link at place i, which does not carry, into their chains.
+    // Not one function with unchain_link: the step alone differs, and each step has clauses of its own.
     fn chain_link(&mut self, i: usize)
         requires within { i < length self.old.ends.now }
         requires off { slice_index_or (flags self.old.n self.old.ends.now self.old.bytes.now) i false ≡ false }

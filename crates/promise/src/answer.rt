@@ -3,6 +3,7 @@ use faults::{DrawFault, OpenFault, PlayerFault};
 use planner::Drawn;
 
 /// The answer of one of the nine calls.
+// A case for each outcome and no Result in a case: the steps, and who reads a log, match on one level.
 #[derive(Clone, Copy)]
 pub enum Answer {
     /// The call was not made: the installation's state does not allow it.

@@ -61,7 +61,7 @@ fn number_classes(parent: &[u32], name: &mut [u32]) -> u32
 {
     let mut count = 0;
     name[0] = 0;
-    // By number: a node may take the name of its parent, from the table that is written.
+    // By number: node 0 is no node, and a node may take the name of its parent, from the table that is written.
     for x in 1..parent.len() {
         let up = parent[x] as usize;
         if up == x {

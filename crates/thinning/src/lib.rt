@@ -22,7 +22,9 @@ use nodes::NodeTables;
 use reduction::reduce;
 
 // `named` and `chosen` stay two parameters: a struct of both would have to tell at each write of `chosen` that `named`, which
-// is only read, stays.
+// is only read, stays. So do `links` and `others`: each half of thinning cuts them anew, so that what holds of their ends stays
+// in clauses. `thin` takes `parent` and `name` one by one: a struct of two fields of the caller's tables was tried there, and
+// that borrow is not covered.
 
 /// The second half of thinning: from reduced links, with the others in their order, merges and reduces again; says how
 /// many nodes and links are left.

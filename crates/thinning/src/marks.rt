@@ -56,7 +56,8 @@ pub(crate) fn retain(links: &mut [[u32; 3]], named: &[u32], chosen: &[u32]) -> u
     ensures kept { take result (links_in links.new) ≡ filtered (λ e. either (flag named.now e.number) (flag chosen.now e.number)) (links_in links.old) }
 {
     let mut k = 0;
-    // By index: the links kept are written into the table that is read.
+    // By index: the links kept are written into the table that is read. Not one function with `keep_on` of forests, whose test
+    // changes as it goes.
     for i in 0..links.len() {
         let link = Link::from(links[i]);
         if either_marks(named, chosen, link.number) {

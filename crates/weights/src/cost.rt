@@ -46,7 +46,6 @@ impl Weight for Cost {
 
 impl fmt::Display for Cost {
     fn fmt<W: fmt::Write>(&self, f: &mut fmt::Formatter<W>) -> fmt::Result {
-        let cost = self.0;
-        write!(f, "{cost}")
+        write!(f, "{}", self.0)
     }
 }

@@ -7,7 +7,7 @@ ghost use Rattle.weights.specs.declared.order.Side.TheVariants.{Before, Level, A
 use std::cmp::Ordering;
 
 /// Where one value stands to another.
-// Not the library's Ordering: there Equal says that two values are one, and two weights may be level and yet two.
+// Not the library's Ordering: its Equal would be read as one value, and two weights may be level and yet two.
 #[derive(Clone, Copy, PartialEq, Eq, Debug)]
 pub enum Side {
     Before,

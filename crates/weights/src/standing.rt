@@ -7,7 +7,7 @@ use crate::order::{Ordered, Side};
 
 /// Absent, or present at a weight. Its order comes from the weight's: every absent one is after every present one, and
 /// absent ones are level.
-// Not an Option: in the library's order None comes first, and its values would need an order in which level is equal.
+// A form that the project keeps: absent or at a weight. Not an Option, of which the library's order puts None first.
 #[derive(Clone, Copy)]
 pub enum Standing<W> {
     At(W),

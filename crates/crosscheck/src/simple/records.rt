@@ -9,6 +9,7 @@ pub struct Weight {
 
 /// A link with its end nodes, its weight, and whether it is present. Link k stands at index k - 1.
 #[derive(Clone, Copy)]
+// An absent link keeps its weight, which a flip brings back: so the two are no Option.
 pub struct Link {
     pub a: u32,
     pub b: u32,

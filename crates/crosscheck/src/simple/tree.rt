@@ -4,6 +4,11 @@ use crate::simple::records::{Link, index};
 use std::alloc::{AllocError, Global};
 use std::collections::BTreeSet;
 
+/// What stands at a node's place in a table, or 0.
+fn at(table: &[u32], node: u32) -> u32 {
+    table.get(index(node)).copied().unwrap_or(0)
+}
+
 /// A label for each node. Nodes that are joined have one label, that of the smallest of them.
 #[derive(Drop)]
 pub struct Labels {
@@ -19,7 +24,7 @@ impl Labels {
 
     /// The label of a node.
     pub fn of(&self, node: u32) -> u32 {
-        self.labels.get(index(node)).copied().unwrap_or(0)
+        at(&self.labels, node)
     }
 
     /// Joins two nodes and all that are joined to them. Says whether they were apart.
@@ -51,7 +56,7 @@ impl Labels {
                 nodes = nodes.saturating_add(1);
                 nodes
             } else {
-                numbers.get(index(*label)).copied().unwrap_or(0)
+                at(&numbers, *label)
             };
             numbers.push(number)?;
         }
@@ -69,7 +74,7 @@ pub struct Merged {
 impl Merged {
     /// The new number of a node.
     pub fn number(&self, node: u32) -> u32 {
-        self.numbers.get(index(node)).copied().unwrap_or(0)
+        at(&self.numbers, node)
     }
 }
 

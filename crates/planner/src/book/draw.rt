@@ -39,7 +39,7 @@ impl<'a, 'b, 'c, W: Weight> Book<'a, 'b, 'c, W> {
         ensures lent { (self.new.links.ghost_name ≡ self.old.links.ghost_name) × (self.new.tree.ghost_name ≡ self.old.tree.ghost_name) }
     {
         if let Some(fault) = self.refusal {
-            return Err(DrawFault::NotOpened(fault));
+            return Err(fault.into());
         }
         let Book {
             n,

@@ -71,6 +71,7 @@ impl<'a, 'b, 'c, W: Weight> Book<'a, 'b, 'c, W> {
 }
 
 /// Writes the least tree into the tree table, if the network is sound; if not, the tree table stays.
+// Number, ends, links and tree one by one: a network in range asks for tables in range, and that is what is checked here.
 fn find_tree<W: Ordered>(
     n: u32,
     ends: &[Ends],

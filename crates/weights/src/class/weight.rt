@@ -59,8 +59,6 @@ impl Weight for Class {
 
 impl fmt::Display for Class {
     fn fmt<W: fmt::Write>(&self, f: &mut fmt::Formatter<W>) -> fmt::Result {
-        let class = self.class;
-        let cost = self.cost;
-        write!(f, "{class} {cost}")
+        write!(f, "{} {}", self.class, self.cost)
     }
 }
