@@ -4,7 +4,7 @@ use Rattle.block_records.specs.declared.Link.{Link}
 use Rattle.plans.specs.Places.{place_of, place_before}
 use Rattle.thinning.specs.Marks.{Ascends}
 use Rattle.std.specs.Coded.{×_prop, Unit-prop}
-use denote.Struct.Props.{props}
+use Rattle.std.proofs.Props.{props}
 
 -- Whether a link between x and y is between the different nodes a and b.
 abbrev pub crossing : ℕ → ℕ → ℕ → ℕ → Bool
