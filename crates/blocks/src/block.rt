@@ -12,7 +12,7 @@ ghost use Rattle.blocks.specs.Telling.{Told};
 
 use crate::tables::{Graph, Tables};
 use block_records::Move;
-use leaves::{Tally, leaf};
+use leaves::{Tally, Thinned};
 use thinning::{fill_at, thin};
 
 /// Copies a block's links and thins them for its changes; says how many nodes and links are left.
@@ -73,9 +73,10 @@ pub(crate) fn block(
     let met = tally.receive(graph.links.len());
     if moves.len() == 1 {
         let change = Move::from(moves[0]);
-        let (goes, comes) = leaf(left.links, places, change);
+        let thinned = Thinned { links: left.links };
+        let (goes, comes) = thinned.leaf(places, change);
         out[0] = [goes, comes];
-        return met.tell(left.links, places);
+        return met.tell(thinned, places);
     }
     let mid = moves.len().div_ceil(2);
     let (first, last) = moves.split_at(mid);

@@ -2,6 +2,9 @@
 use Rattle.std.specs.Prelude.{ℕ, Bool, false, cond, List, [], ◌∷◌, Some, None, Option, ◌==◌, nat_le}
 use Rattle.block_records.specs.declared.Link.{Link}
 use Rattle.plans.specs.Places.{place_of, place_before}
+use Rattle.thinning.specs.Marks.{Ascends}
+use Rattle.std.specs.Coded.{×_prop, Unit-prop}
+use Rattle.std.proofs.Props.{props}
 
 -- Whether a link between x and y is between the different nodes a and b.
 abbrev pub crossing : ℕ → ℕ → ℕ → ℕ → Bool
@@ -24,3 +27,8 @@ leader places (e ∷ f ∷ g ∷ es) = None
 -- Whether a link between different nodes is at the absent place or later.
 abbrev pub late_link : ℕ → List ℕ → Link → Bool
 late_link absent places e = cond (e.a.0 == e.b.0) false (nat_le absent (place_of places e.number))
+
+-- Links ascend in one way at most.
+pub Ascends-prop : (es : List Link) → IsProp (Ascends es)
+Ascends-prop [] = Unit-prop
+Ascends-prop (e ∷ es) = ×_prop (hlevel props) (Ascends-prop es)

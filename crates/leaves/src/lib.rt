@@ -4,5 +4,5 @@
 mod single;
 mod tally;
 
-pub use single::leaf;
+pub use single::Thinned;
 pub use tally::Tally;

@@ -7,7 +7,7 @@ ghost use Rattle.plans.specs.Places.{moved};
 ghost use Rattle.plans.specs.Plan.{tree_at, entry};
 ghost use Rattle.plans.specs.Tears.{torn_at};
 ghost use Rattle.thinning.specs.Marks.{Ascends};
-ghost use Rattle.leaves.specs.Leaf.{crossing, leader, winner, late_link};
+ghost use Rattle.leaves.specs.Leaf.{crossing, leader, winner, late_link, Ascends-prop};
 
 use block_records::{Link, Move};
 use forests::{earlier, place_of};
@@ -17,48 +17,6 @@ fn crosses(e: Link, f: Link) -> bool
     ensures { result ≡ crossing e.a.0 e.b.0 f.a.0 f.b.0 }
 {
     e.a != e.b && ((f.a == e.a && f.b == e.b) || (f.a == e.b && f.b == e.a))
-}
-
-/// Of two links between the same nodes, the one that is first in order.
-fn first(links: &[[u32; 3]], places: &[u32]) -> Option<Link>
-    requires { length links.now ≤ 2 }
-    ensures { result ≡ leader places.now (links_in links.now) }
-{
-    let [e, f] = links else {
-        return None;
-    };
-    let (e, f) = (Link::from(*e), Link::from(*f));
-    if !crosses(e, f) {
-        return None;
-    }
-    if earlier(places, e.number, f.number) {
-        Some(e)
-    } else {
-        Some(f)
-    }
-}
-
-/// The number of that link, or 0 where there is none.
-#[tactic(auto, using(crate::proofs::Leaves::winner_none, crate::proofs::Leaves::winner_some))]
-fn winner(links: &[[u32; 3]], places: &[u32]) -> u32
-    requires { length links.now ≤ 2 }
-    ensures { result ≡ winner places.now (links_in links.now) }
-{
-    first(links, places).map_or(0, |e| e.number)
-}
-
-/// Makes a change on a thinned graph, and answers the numbers of the link that leaves and the link that comes.
-pub fn leaf(links: &[[u32; 3]], places: &mut [u32], change: Move<u32>) -> (u32, u32)
-    requires few { length links.now ≤ 2 }
-    requires ascends { Ascends (links_in links.now) }
-    requires known { (1 ≤ change.link) × (change.link ≤ length places.old) }
-    ensures places { places.new ≡ moved places.old change }
-    ensures entry { result ≡ entry (tree_at places.old (links_in links.now)) (tree_at (moved places.old change) (links_in links.now)) }
-{
-    let was = winner(links, places);
-    places[change.link as usize - 1] = change.to;
-    let is = winner(links, places);
-    if was == is { (0, 0) } else { (was, is) }
 }
 
 /// Whether a link is between different nodes and at the absent place or later.
@@ -77,14 +35,60 @@ fn any_late(links: &[[u32; 3]], places: &[u32], absent: u32) -> bool
         .any(|words| is_late(Link::from(*words), places, absent))
 }
 
-/// Whether the least forest of a thinned graph holds a link at the absent place or later.
-pub(crate) fn torn(links: &[[u32; 3]], places: &[u32], absent: u32) -> bool
-    requires few { length links.now ≤ 2 }
-    requires ascends { Ascends (links_in links.now) }
-    ensures { result ≡ torn_at absent places.now (links_in links.now) }
-{
-    match first(links, places) {
-        Some(e) => is_late(e, places, absent),
-        None => any_late(links, places, absent),
+/// A graph thinned for one change: at most two links, by number.
+#[derive(Clone, Copy)]
+pub struct Thinned<'a> {
+    pub links: &'a [[u32; 3]],
+    ghost few: { length links.now ≤ 2 },
+    ghost ascends: { Ascends (links_in links.now) } by { Ascends-prop (links_in links.now) },
+}
+
+impl Thinned<'_> {
+    /// Of two links between the same nodes, the one that is first in order.
+    fn first(self, places: &[u32]) -> Option<Link>
+        ensures { result ≡ leader places.now (links_in self.entry.links.now) }
+    {
+        let [e, f] = self.links else {
+            return None;
+        };
+        let (e, f) = (Link::from(*e), Link::from(*f));
+        if !crosses(e, f) {
+            return None;
+        }
+        if earlier(places, e.number, f.number) {
+            Some(e)
+        } else {
+            Some(f)
+        }
+    }
+
+    /// The number of that link, or 0 where there is none.
+    #[tactic(auto, using(crate::proofs::Leaves::winner_none, crate::proofs::Leaves::winner_some))]
+    fn winner(self, places: &[u32]) -> u32
+        ensures { result ≡ winner places.now (links_in self.entry.links.now) }
+    {
+        self.first(places).map_or(0, |e| e.number)
+    }
+
+    /// Makes a change, and answers the numbers of the link that leaves and the link that comes.
+    pub fn leaf(self, places: &mut [u32], change: Move<u32>) -> (u32, u32)
+        requires known { (1 ≤ change.link) × (change.link ≤ length places.old) }
+        ensures places { places.new ≡ moved places.old change }
+        ensures entry { result ≡ entry (tree_at places.old (links_in self.entry.links.now)) (tree_at (moved places.old change) (links_in self.entry.links.now)) }
+    {
+        let was = self.winner(places);
+        places[change.link as usize - 1] = change.to;
+        let is = self.winner(places);
+        if was == is { (0, 0) } else { (was, is) }
+    }
+
+    /// Whether the least forest holds a link at the absent place or later.
+    pub(crate) fn torn(self, places: &[u32], absent: u32) -> bool
+        ensures { result ≡ torn_at absent places.now (links_in self.entry.links.now) }
+    {
+        match self.first(places) {
+            Some(e) => is_late(e, places, absent),
+            None => any_late(self.links, places, absent),
+        }
     }
 }

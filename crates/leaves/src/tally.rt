@@ -1,9 +1,8 @@
 //! What a batch tells as it goes.
-ghost use Rattle.std.specs.Prelude.{◌≡◌, ◌+◌, ◌^◌, ◌<◌, ◌≤◌, length, None};
+ghost use Rattle.std.specs.Prelude.{◌≡◌, ◌+◌, ◌^◌, ◌<◌, None};
 ghost use Rattle.block_records.specs.Words.{links_in};
-ghost use Rattle.thinning.specs.Marks.{Ascends};
 
-use crate::single::torn;
+use crate::single::Thinned;
 
 /// The place of absent links, the work count so far, how many changes were made, and how many of them came before the
 /// first after which the least forest holds an absent link, if there was one.
@@ -42,14 +41,12 @@ impl Tally {
     }
 
     /// The tally after one more change.
-    pub fn tell(self, links: &[[u32; 3]], places: &[u32]) -> Tally
-        requires few { length links.now ≤ 2 }
-        requires ascends { Ascends (links_in links.now) }
+    pub fn tell(self, thinned: Thinned, places: &[u32]) -> Tally
         requires fits { self.changes + 1 < 2 ^ 64 }
-        ensures { Spoke self result places.now (links_in links.now) }
+        ensures { Spoke self result places.now (links_in thinned.entry.links.now) }
     {
         let tear = match self.tear {
-            None if torn(links, places, self.absent) => Some(self.changes),
+            None if thinned.torn(places, self.absent) => Some(self.changes),
             tear => tear,
         };
         Tally {

@@ -51,23 +51,17 @@ placed t c =
     c.leaf-goes.ensures.places
     ∙ ap (moved c.args.places.now) (c.from-change.ensures ∙ sym (get_or-map move_of c.args.moves.now 0 [] no_move (omega (arith, c.if-moves-eq1.true))))
 
-pub leaf-goes-requires-clause-few : goal.leaf-goes-requires-clause-few
-leaf-goes-requires-clause-few t c = omega (arith, small t (goal.at.leaf-goes-requires-clause-few t c).After-prepare-nodes)
+-- The thinned graph is that of one change.
+pub invariant_of-thinned : goal.invariant_of-thinned
+invariant_of-thinned t c =
+    let p = (goal.at.invariant_of-thinned t c).After-prepare-nodes in
+    record { few = omega (arith, small t p); ascends = (fits t p).ascends }
 
-pub leaf-goes-requires-clause-ascends : goal.leaf-goes-requires-clause-ascends
-leaf-goes-requires-clause-ascends t c = (fits t (goal.at.leaf-goes-requires-clause-ascends t c).After-prepare-nodes).ascends
-
-pub leaf-goes-requires-clause-known : goal.leaf-goes-requires-clause-known
-leaf-goes-requires-clause-known t c =
-    let a = ap (λ (d : Move ℕ). d.link) (change t (goal.at.leaf-goes-requires-clause-known t c).After-from-change) in
+pub leaf-goes-requires : goal.leaf-goes-requires
+leaf-goes-requires t c =
+    let a = ap (λ (d : Move ℕ). d.link) (change t (goal.at.leaf-goes-requires t c).After-from-change) in
     let k = c.requires.fits.known 0 c.requires.fits.some in
-    (omega (arith, k.0), omega (arith, k.1))
-
-pub tell-requires-clause-few : goal.tell-requires-clause-few
-tell-requires-clause-few t c = omega (arith, small t (goal.at.tell-requires-clause-few t c).After-prepare-nodes)
-
-pub tell-requires-clause-ascends : goal.tell-requires-clause-ascends
-tell-requires-clause-ascends t c = (fits t (goal.at.tell-requires-clause-ascends t c).After-prepare-nodes).ascends
+    record { known = (omega (arith, k.0), omega (arith, k.1)) }
 
 pub returns-then-moves-eq1-clause-places : goal.returns-then-moves-eq1-clause-places
 returns-then-moves-eq1-clause-places t c =
