@@ -1,5 +1,5 @@
 -- Tallies of parts.
-use Rattle.std.proofs.Common.{◌≡◌, ℕ, ◌+◌, ◌-◌, ◌≤◌, Bool, true, false, cond, ltb, List, [], ◌∷◌, ◌++◌, length, get_or, take, drop, Some, None, sym, refl, ap, ◌∙◌, subst, ap₂, inl, inr, add-zero, zero-add, arith}
+use Rattle.std.proofs.Common.{◌≡◌, ℕ, ◌+◌, ◌-◌, ◌^◌, ◌<◌, ◌≤◌, Bool, true, false, cond, ltb, List, [], ◌∷◌, ◌++◌, length, get_or, take, drop, Some, None, sym, refl, ap, ◌∙◌, subst, ap₂, inl, inr, add-zero, zero-add, arith}
 use Rattle.std.proofs.lemmas.List.{length-append, take-append-drop, take_all}
 use Rattle.std.proofs.lemmas.Bool.{cases_Bool, cond-true, cond-false, ltb-true, ltb-false, lt-ltb}
 use Rattle.std.proofs.lemmas.Bool.Decides.{nat_tests}
@@ -91,20 +91,20 @@ one_tear : (b : Bool) (m : ℕ) → cond b (Some m) None ≡ tear_in m (cond b 0
 one_tear true m = ap Some (sym (add-zero m))
 one_tear false m = refl
 
-pub told-one : (t r : Tally) (ps qs : List ℕ) (es : List Link) (cs : List (Move ℕ)) → length cs ≡ 1 → qs ≡ moved ps (get_or cs 0 no_move)
+pub told-one : (t r : Tally) (ps qs : List ℕ) (es : List Link) (cs : List (Move ℕ)) → t.changes + 1 < 2 ^ 64 → length cs ≡ 1 → qs ≡ moved ps (get_or cs 0 no_move)
     → Spoke t r qs es → Told t r 0 ps es cs
 unfolding first_tear_by
-told-one t r ps qs es [] l e x = absurd (omega arith)
-told-one t r ps qs es (c ∷ []) l e x = record {
+told-one t r ps qs es [] fits l e x = absurd (omega arith)
+told-one t r ps qs es (c ∷ []) fits l e x = record {
   work = omega (arith, x.work);
   place = x.place;
-  counts = x.counts;
+  counts = x.counts fits;
   stays = x.stays;
   tells = λ a p h k.
       let f = x.tells a p h ∙ ap (λ (z : List ℕ). cond (torn_at a z es) (Some t.changes) None) e in
       f ∙ one_tear (torn_at a (moved ps c) es) t.changes;
 }
-told-one t r ps qs es (c ∷ d ∷ cs) l e x = absurd (omega arith)
+told-one t r ps qs es (c ∷ d ∷ cs) fits l e x = absurd (omega arith)
 
 -- From the thinned graph to the block.
 pub told-up : (t m r : Tally) (w W : ℕ) (ps : List ℕ) (k n : ℕ) (es : List Link) (cs : List (Move ℕ)) (f : Fits n k es cs) (n2 : ℕ) (es2 : List Link)

@@ -42,7 +42,6 @@ impl Tally {
 
     /// The tally after one more change.
     pub fn tell(self, thinned: Thinned, places: &[u32]) -> Tally
-        requires fits { self.changes + 1 < 2 ^ 64 }
         ensures { Spoke self result places.now (links_in thinned.entry.links.now) }
     {
         let tear = match self.tear {
@@ -50,7 +49,7 @@ impl Tally {
             tear => tear,
         };
         Tally {
-            changes: self.changes + 1,
+            changes: self.changes.saturating_add(1),
             tear,
             ..self
         }

@@ -87,9 +87,11 @@ returns-then-moves-eq1-clause-told t c =
     let cs : List (Move ℕ) = moves_in c.args.moves.now in
     let es2 : List Link = links_in (take c.prepare-nodes.result.1 c.prepare-nodes.new.own) in
     let w = single-work ps (graph_of c.args.graph) cs (one t p.After-from-change) in
+    let k : c.receive-met.result.changes ≡ c.args.tally.changes = ap (λ (r : Tally). r.changes) (met t p.After-receive-met) in
+    let fits : c.receive-met.result.changes + 1 < 2 ^ 64 = omega (arith, c.requires.count.1, c.if-moves-eq1.true) in
     told-up c.args.tally c.receive-met.result c.tell.result 0 _ ps (length ps) c.args.graph.nodes (links_in c.args.graph.links.now) cs c.requires.fits _ es2
     (left t p.After-prepare-nodes) (met t p.After-receive-met) (omega arith)
-    (told-one c.receive-met.result c.tell.result ps c.leaf-goes.new.places es2 cs (one t p.After-from-change) (placed t p.After-leaf-goes) c.tell.ensures)
+    (told-one c.receive-met.result c.tell.result ps c.leaf-goes.new.places es2 cs fits (one t p.After-from-change) (placed t p.After-leaf-goes) c.tell.ensures)
 
 -- Two changes or more: the halves as code cuts them.
 more : (t : ℕ) (c : After-split_at t) → 2 ≤ length (moves_in c.args.moves.now)
