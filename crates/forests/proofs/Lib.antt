@@ -1,5 +1,5 @@
 pub mod Table
-pub mod Classes
+pub mod Parents
 pub mod Greedy
 pub mod Rooted
 pub mod Sinking

@@ -11,4 +11,4 @@ pub use by_place::{earlier, place_of, sort_by_place};
 pub use heap::{Ranking, sort};
 pub use kruskal::{keep, keep_on};
 pub use positions::pick;
-pub use union_find::{roots_are_labels, start, unite};
+pub use union_find::{Classes, roots_are_labels, start};

@@ -6,26 +6,26 @@ ghost use Rattle.graphs.specs.Graph.{In};
 ghost use Rattle.graphs.specs.Forest.{filtered, greedy};
 ghost use Rattle.graphs.specs.Thin.{roots, relabel};
 ghost use Rattle.block_records.specs.Words.{links_in};
-ghost use Rattle.forests.specs.Union.{Falls, Holds};
+ghost use Rattle.forests.specs.Union.{Holds};
 ghost use Rattle.thinning.specs.Marks.{Under, Below, marked, stacked};
 ghost use Rattle.thinning.specs.Names.{Renames, through};
 
 use crate::nodes::NodeTables;
 use block_records::{BlockNode, Link};
-use forests::{keep_on, start, unite};
+use forests::{Classes, keep_on};
 
 /// Joins the ends of the links whose numbers pass a test.
-fn join<F: Fn(u32) -> bool>(links: &[[u32; 3]], parent: &mut [u32], passes: F)
-    requires falls { Falls parent.old }
+fn join<F: Fn(u32) -> bool>(links: &[[u32; 3]], classes: &mut Classes, passes: F)
     requires tests { (e : Link) → In e (links_in links.now) → F.pre passes e.number }
-    requires ends { Below (length parent.old) (links_in links.now) }
-    ensures falls { Falls parent.new }
-    ensures joins { (p : ℕ → Bool) → ((e : Link) (b : Bool) → In e (links_in links.now) → F.post passes e.number b → b ≡ p e.number) → (K : List Link) → Holds K parent.old → Holds (stacked K (filtered (λ e. p e.number) (links_in links.now))) parent.new }
+    requires ends { Below (length classes.old.parent.now) (links_in links.now) }
+    ensures joins { (p : ℕ → Bool) → ((e : Link) (b : Bool) → In e (links_in links.now) → F.post passes e.number b → b ≡ p e.number) → (K : List Link) → Holds K classes.old.parent.now → Holds (stacked K (filtered (λ e. p e.number) (links_in links.now))) classes.new.parent.now }
+    ensures size { length classes.new.parent.now ≡ length classes.old.parent.now }
+    ensures lent { classes.new.parent.ghost_name ≡ classes.old.parent.ghost_name }
 {
     for words in links {
         let link = Link::from(*words);
         if passes(link.number) {
-            unite(parent, link.a.0, link.b.0);
+            classes.unite(link.a.0, link.b.0);
         }
     }
 }
@@ -46,24 +46,23 @@ pub(crate) fn merge(
     ensures within { result ≤ length merged.old }
     ensures merged { take result (links_in merged.new) ≡ greedy (stacked [] (marked named.now (links_in links.now))) (links_in others.now) }
 {
-    start(parent);
-    join(links, parent, |k| named[k as usize] == 1);
+    let mut classes = Classes::new(parent);
+    join(links, &mut classes, |k| named[k as usize] == 1);
     merged.copy_from_slice(others);
-    keep_on(merged, parent)
+    keep_on(merged, &mut classes)
 }
 
 /// Numbers the classes from 1 by their smallest member, gives each node the number of its class, and says how many classes
 /// there are.
-fn number_classes(parent: &[u32], name: &mut [u32]) -> u32
-    requires falls { Falls parent.now }
-    requires size { (0 < length parent.now) × (length parent.now ≤ 2 ^ 32) × (length name.old ≡ length parent.now) }
-    ensures { (ms : List Link) → Holds ms parent.now → Renames ms name.new (length parent.now) × (result ≡ roots ms (length parent.now - 1)) }
+fn number_classes(classes: &Classes, name: &mut [u32]) -> u32
+    requires { (0 < length classes.now.parent.now) × (length classes.now.parent.now ≤ 2 ^ 32) × (length name.old ≡ length classes.now.parent.now) }
+    ensures { (ms : List Link) → Holds ms classes.now.parent.now → Renames ms name.new (length classes.now.parent.now) × (result ≡ roots ms (length classes.now.parent.now - 1)) }
 {
     let mut count = 0;
     name[0] = 0;
     // By number: node 0 is no node, and a node may take the name of its parent, from the table that is written.
-    for x in 1..parent.len() {
-        let up = parent[x] as usize;
+    for x in 1..classes.parent.len() {
+        let up = classes.parent[x] as usize;
         if up == x {
             count += 1;
             name[x] = count;
@@ -81,9 +80,9 @@ fn number_nodes(merged: &[[u32; 3]], nodes: &mut NodeTables) -> u32
     ensures names { Renames (links_in merged.now) nodes.new.name.now (length nodes.old.parent.now) }
     ensures count { result ≡ roots (links_in merged.now) (length nodes.old.parent.now - 1) }
 {
-    start(nodes.parent);
-    join(merged, nodes.parent, |_| true);
-    number_classes(nodes.parent, nodes.name)
+    let mut classes = Classes::new(nodes.parent);
+    join(merged, &mut classes, |_| true);
+    number_classes(&classes, nodes.name)
 }
 
 /// Gives the links' ends their new numbers.

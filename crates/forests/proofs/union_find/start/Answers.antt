@@ -1,5 +1,5 @@
 use Rattle.std.proofs.Common.{arith}
-use Rattle.forests.proofs.Classes.{holds-none}
+use Rattle.forests.proofs.Parents.{holds-none}
 use Rattle.forests.proofs.union_find.start.Goals as goal
 
 pub returns : goal.returns

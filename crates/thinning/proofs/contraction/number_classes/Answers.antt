@@ -12,18 +12,18 @@ loop-x-init c = (
     sym (roots-none ms),
     λ y l.
         let e : y ≡ 0 = omega arith in
-        let g = get_or-set_same c.args.name.now 0 0 0 (omega (arith, c.requires.size.2, c.requires.size.0)) in
+        let g = get_or-set_same c.args.name.now 0 0 0 (omega (arith, c.requires.2, c.requires.0)) in
         rw e (g ∙ sym (renamed-none ms)),
   ),
 )
 
 pub loop-x-preserved : goal.loop-x-preserved
 loop-x-preserved c =
-    let ps : List ℕ = c.args.parent.now in
+    let ps : List ℕ = c.args.classes.now.parent.now in
     let x = c.loop-x.x in
     let s : x + 1 - 1 ≡ x = omega arith in
     let z : 0 < x = omega arith in
-    let ln : x < length c.loop-x.name = omega (arith, c.loop-x.auto.name, length-set c.args.name.now 0 0, c.requires.size.2) in
+    let ln : x < length c.loop-x.name = omega (arith, c.loop-x.auto.name, length-set c.args.name.now 0 0, c.requires.2) in
     elim c.if-up-x.branch [
       | then-up-x w ↦ rw (w.name-is, w.count-is, s) (
         omega arith,

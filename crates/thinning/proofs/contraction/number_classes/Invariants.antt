@@ -7,4 +7,4 @@ use Rattle.thinning.proofs.contraction.number_classes.Given as goal
 
 abbrev pub invariant-loop-x : goal.invariant-loop-x
 invariant-loop-x l =
-    (l.count < l.x) × ((ms : List Link) → Holds ms l.parent → (l.count ≡ roots ms (l.x - 1)) × Renames ms l.name l.x)
+    (l.count < l.x) × ((ms : List Link) → Holds ms l.classes.parent.now → (l.count ≡ roots ms (l.x - 1)) × Renames ms l.name l.x)
