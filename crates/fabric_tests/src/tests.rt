@@ -9,6 +9,7 @@ use std::process::Abort;
 use std::test::Fail;
 
 /// A link between two nodes.
+// A short name for many literals: a constructor in `network` would be written no shorter at each.
 fn link(a: u32, b: u32) -> Ends {
     Ends {
         a: Node(a),
@@ -25,7 +26,7 @@ fn report(code: u32, place: u32) -> Fault {
     }
 }
 
-/// Checks that a call was refused with this code and place.
+/// Checks that a call was refused with this code and place, which come one by one, so that a case stands in one line.
 fn refused(
     rt: &impl Abort,
     answer: Result<(), FabricFault>,
@@ -43,6 +44,7 @@ fn carries<F: Fabric>(rt: &impl Abort, fabric: &F, link: u32, expected: bool) ->
 }
 
 /// Checks that the making of a fabric was refused with this code and place.
+// Not one function with `refused`: the one is told an answer, the other a refusal that the fabric keeps.
 fn not_made(
     rt: &impl Abort,
     refusal: Option<BlankFault>,

@@ -11,6 +11,7 @@ mod tests {
     use std::process::Abort;
     use weights::Cost;
 
+    // A short name for many literals: a constructor in `network` would be written no shorter at each.
     fn ends(a: u32, b: u32) -> Ends {
         Ends {
             a: Node(a),

@@ -62,7 +62,7 @@ impl Thinned<'_> {
         }
     }
 
-    /// The number of that link, or 0 where there is none.
+    /// The number of that link, or 0 where there is none: an entry is a pair of link numbers, in which 0 stands for no link.
     #[tactic(auto, using(crate::proofs::Leaves::winner_none, crate::proofs::Leaves::winner_some))]
     fn winner(self, places: &[u32]) -> u32
         ensures { result ≡ winner places.now (links_in self.entry.links.now) }

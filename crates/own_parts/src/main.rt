@@ -77,6 +77,7 @@ fn main(rt: HostRuntime) -> io::Result<()> {
     println!(rt; "words {}", words[0])
 }
 
+// A short name for many literals: a constructor in `network` would be written no shorter at each.
 fn link(a: u32, b: u32) -> Ends {
     Ends {
         a: Node(a),

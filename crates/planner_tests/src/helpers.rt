@@ -6,6 +6,7 @@ use std::process::Abort;
 use weights::{Cost, Weight};
 
 /// A link between two nodes.
+// A short name for many literals: a constructor in `network` would be written no shorter at each.
 pub(crate) fn link(a: u32, b: u32) -> Ends {
     Ends {
         a: Node(a),
@@ -73,7 +74,7 @@ pub(crate) fn open_and_draw<W: Weight>(
     book.draw(batch, start, entries, work)
 }
 
-/// Checks that a draw was refused with this report.
+/// Checks that a draw was refused with this report. Layer, code and place come one by one, so that a case stands in one line.
 pub(crate) fn refused(
     rt: &impl Abort,
     answer: Result<Drawn, DrawFault>,
@@ -86,6 +87,7 @@ pub(crate) fn refused(
 }
 
 /// Checks that an open was refused with this code and place.
+// Not one function with `refused`: what a draw answers beside its fault has to be let go.
 pub(crate) fn not_opened(rt: &impl Abort, refusal: Option<OpenFault>, code: u32, place: u32) {
     let report = Fault {
         layer: Layer::Book,

@@ -81,7 +81,8 @@ mod tests {
         Ok(player.finish())
     }
 
-    // What carries in the plant after so many changes forward and then back, if these come to that moment.
+    // What carries in the plant after so many changes forward and then back, if these come to that moment; else a fault that no
+    // test expects.
     fn after(forwards: u32, backwards: u32, moment: u32) -> Result<[bool; 5], Fault> {
         let mut bytes = [0u8; 5];
         let mut map = LinkMap::blank(5, &mut bytes);
@@ -148,7 +149,8 @@ mod tests {
         );
     }
 
-    // Lays the plant's plan on a map that carries one link, and tells the fault and what carries then.
+    // Lays the plant's plan on a map that carries one link, and tells the fault and what carries then. A grant, which no test
+    // expects, is a fault that no test expects.
     fn laid_over(link: u32) -> Result<(Fault, [bool; 5]), Fault> {
         let mut bytes = [0u8; 5];
         let mut map = LinkMap::blank(5, &mut bytes);
