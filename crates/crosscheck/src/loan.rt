@@ -7,7 +7,7 @@ use network::{Ends, LinkState, Node};
 use planner::{Book, Drawn, Tables};
 use std::alloc::Global;
 use std::iter::repeat;
-use weights::{Class, Cost, Side};
+use weights::{Class, Cost};
 
 /// What stands in tables before the planner writes there.
 pub const BLANK: u32 = 0xdead_beef;
@@ -21,7 +21,7 @@ const SPARE: Link = Link {
 };
 
 /// A weight kind of the planner.
-pub trait Kind: weights::Weight + TryFrom<Weight, Error = WeightFault> {
+pub trait Kind: weights::Weight + PartialEq + TryFrom<Weight, Error = WeightFault> {
     /// How many classes its weights have.
     const CLASSES: u32;
 }
@@ -215,8 +215,7 @@ impl<W: Kind> Loan<W> {
     pub fn has_links(&self, links: &[Link]) -> Result<bool, Failure> {
         let wanted = links.iter().copied().chain(repeat(SPARE));
         for (state, link) in self.opening.links.iter().zip(wanted) {
-            let weight = W::try_from(link.weight)?;
-            if state.weight.side_of(&weight) != Side::Level || state.present != link.present {
+            if *state != LinkState::<W>::try_from(link)? {
                 return Ok(false);
             }
         }

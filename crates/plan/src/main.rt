@@ -12,6 +12,7 @@ use weights::Weight;
 /// Bytes enough to tell that a text is too long.
 const ENOUGH: u64 = 4097;
 
+// `shift` begins alike: the library of texts reads no input, and no closure is generic over the kind of weights.
 fn main(rt: HostRuntime) -> anyhow::Result<ExitCode> {
     let mut input = Vec::new(rt.alloc());
     rt.stdin().take(ENOUGH).read_to_end(&mut input)?;

@@ -23,7 +23,7 @@ mod tests {
         }
     }
 
-    // A fault as it is reported.
+    // A fault as it is reported, by its number, as documents have it.
     fn told(layer: Layer, code: u32, place: u32) -> Fault {
         Fault { layer, code, place }
     }
