@@ -1,5 +1,5 @@
 -- When a fabric has a link, when it enables one, and what a look tells.
-use Rattle.std.proofs.Common.{◌≡◌, ℕ, ◌≤◌, Bool, true, false, List, length, None, Ok, Err, Result, refl, sym, arith}
+use Rattle.std.proofs.Common.{◌≡◌, ℕ, ◌≤◌, Bool, true, false, List, length, None, Ok, Err, Result, refl, arith}
 use mathlib.Core.Bool.{beq}
 use Rattle.std.specs.Result.{result_eq, IsOk}
 use Rattle.std.proofs.lemmas.Bool.Decides.{nat_tests}

@@ -1,15 +1,11 @@
--- Whether an item is in a list, by its place and by the library's searches.
-use Rattle.std.proofs.Common.{◌≡◌, ℕ, ◌<◌, ◌≤◌, true, false, eqb, List, [], ◌∷◌, ◌++◌, ◌||◌, length, get_or, take, Ok, Err, Result, sym, refl, ap, inl, inr, arith}
+-- Whether an item is in a list, by its place, by the library's search, and in an ascending list by one look.
+use Rattle.std.proofs.Common.{◌≡◌, ℕ, ◌<◌, ◌+◌, ◌≤◌, true, false, eqb, List, [], ◌∷◌, ◌++◌, ◌||◌, length, get_or, take, sym, refl, ap, ◌∙◌, inl, inr, arith}
 use Rattle.std.specs.List.{list_any}
-use Rattle.std.specs.List.Sorted.{IsBinarySearchResult}
-use Rattle.std.specs.Ordering.{nat_cmp}
-use Rattle.std.specs.Result.{MatchResult, is_ok}
 use Rattle.std.proofs.lemmas.List.Recursion.{or_at, or_from_places, or_push}
-use Rattle.std.proofs.lemmas.List.Sorted.{searched}
 use Rattle.std.proofs.lemmas.Bool.Decides.{nat_tests}
 use Rattle.std.proofs.lemmas.List.{length-take-le, get_or-take}
-use Rattle.std.proofs.lemmas.Bool.{eq-eqb, ne_eqb, cases_eq, cases_lt}
-use Rattle.player.specs.Start.{mem, Ascends}
+use Rattle.std.proofs.lemmas.Bool.{eq-eqb, ne_eqb, cases_eq, cases_lt, true≢false}
+use Rattle.player.specs.Start.{mem, Ascends, Parts}
 
 mem-step : (x y : ℕ) (ys : List ℕ) → mem x (y ∷ ys) ≡ (eqb x y || mem x ys)
 mem-step x y ys = grind (arith, nat_tests)
@@ -23,22 +19,59 @@ mem-nowhere x xs n = or_from_places (mem x) (eqb x) refl (mem-step x) xs 0 (λ j
 pub mem-push : (y x : ℕ) (xs : List ℕ) → mem y (xs ++ x ∷ []) ≡ (mem y xs || eqb y x)
 mem-push y x xs = or_push (mem y) (eqb y) refl (mem-step y) xs x
 
--- What a search in an ascending list tells.
-pub mem-searched : (xs : List ℕ) (x : ℕ) → Ascends xs → (r : Result ℕ ℕ) → IsBinarySearchResult (λ y. nat_cmp y x) xs r → is_ok r ≡ mem x xs
-mem-searched xs x a r s = met r (searched xs x r s rising)
-  where
-    rising : (i j : ℕ) → i ≤ j → j < length xs → get_or xs i 0 ≤ get_or xs j 0
-    rising i j l h = elim (cases_eq i j) [
-      | inl e ↦ let q = ap (λ k. get_or xs k 0) e in omega arith
-      | inr n ↦ omega (arith, a i j (omega arith) h)
+-- In an ascending list one look tells, and one number further it does so again.
+module _ (xs : List ℕ) (at x : ℕ) (p : Parts xs at x) where
+  elsewhere : (j : ℕ) → j < length xs → x ≡ get_or xs j 0 → j ≡ at
+  elsewhere j h e = elim (cases_lt j at) [
+    | inl l ↦ absurd (omega (arith, p.under j l h))
+    | inr g ↦ elim (cases_eq j at) [
+      | inl s ↦ s
+      | inr d ↦ absurd (omega (arith, p.order at j (omega arith) h, p.over at (omega arith) (omega arith)))
     ]
+  ]
 
-    met : (r : Result ℕ ℕ)
-        → MatchResult r (λ i. (i < length xs) × (get_or xs i 0 ≡ x))
-        (λ i. (i ≤ length xs) × ((k : ℕ) → k < i → get_or xs k 0 < x) × ((k : ℕ) → i ≤ k → k < length xs → x < get_or xs k 0))
-        → is_ok r ≡ mem x xs
-    met (Ok i) m = sym (mem-place x xs i m.0 (sym m.1))
-    met (Err i) m = sym (mem-nowhere x xs (λ k h e. elim (cases_lt k i) [ inl l ↦ omega (arith, m.1 k l) | inr g ↦ omega (arith, m.2 k g h) ]))
+  pub parts-look : at < length xs → eqb (get_or xs at 0) x ≡ mem x xs
+  parts-look h = elim (cases_eq (get_or xs at 0) x) [
+    | inl e ↦ eq-eqb (get_or xs at 0) x e ∙ sym (mem-place x xs at h (sym e))
+    | inr d ↦ ne_eqb (get_or xs at 0) x d ∙ sym (mem-nowhere x xs (λ j g e. d (ap (λ i. get_or xs i 0) (sym (elsewhere j g e)) ∙ sym e)))
+  ]
+
+  pub parts-past : length xs ≤ at → mem x xs ≡ false
+  parts-past h = mem-nowhere x xs (λ j g e. let s = elsewhere j g e in omega arith)
+
+  pub parts-hit : mem x xs ≡ true → Parts xs (at + 1) (x + 1)
+  parts-hit e = elim (cases_lt at (length xs)) [
+    | inl l ↦ elim (cases_eq (get_or xs at 0) x) [
+      | inl s ↦ record {
+        order = p.order;
+        under = λ j b h. elim (cases_eq j at) [
+          | inl z ↦ let q = ap (λ i. get_or xs i 0) z in omega arith
+          | inr d ↦ omega (arith, p.under j (omega arith) h)
+        ];
+        over = λ j b h. omega (arith, p.order at j (omega arith) h);
+      }
+      | inr d ↦ absurd (true≢false (sym e ∙ sym (parts-look l) ∙ ne_eqb (get_or xs at 0) x d))
+    ]
+    | inr g ↦ absurd (true≢false (sym e ∙ parts-past g))
+  ]
+
+  pub parts-miss : mem x xs ≡ false → Parts xs at (x + 1)
+  parts-miss e = record {
+    order = p.order;
+    under = λ j b h. omega (arith, p.under j b h);
+    over = λ j b h. elim (cases_eq x (get_or xs j 0)) [
+      | inl s ↦ absurd (true≢false (sym (mem-place x xs j h s) ∙ e))
+      | inr d ↦ omega (arith, p.over j b h)
+    ];
+  }
+
+-- Before link 1 nothing is below.
+pub parts-start : (xs : List ℕ) → Ascends xs → ((j : ℕ) → j < length xs → get_or xs j 0 ≡ 0 → ⊥) → Parts xs 0 1
+parts-start xs a n = record {
+  order = a;
+  under = λ j l h. absurd (omega arith);
+  over = λ j l h. elim (cases_eq (get_or xs j 0) 0) [ inl e ↦ absurd (n j h e) | inr d ↦ omega arith ];
+}
 
 -- An item of an ascending list is not among those before it.
 pub mem_new : (xs : List ℕ) (i : ℕ) → Ascends xs → i < length xs → mem (get_or xs i 0) (take i xs) ≡ false

@@ -1,5 +1,5 @@
 -- Walking along a list of links.
-use Rattle.std.proofs.Common.{◌≡◌, ℕ, ◌+◌, ◌<◌, ◌≤◌, true, false, cond, eqb, ltb, List, length, get_or, take, drop, Some, None, Option, sym, ◌∙◌, arith}
+use Rattle.std.proofs.Common.{◌≡◌, ℕ, zero, suc, ◌+◌, ◌<◌, ◌≤◌, true, false, cond, eqb, ltb, List, [], ◌∷◌, ◌++◌, length, get_or, take, drop, Some, None, Option, sym, ◌∙◌, arith}
 use Rattle.std.proofs.lemmas.List.{at_drop_more, take_more}
 use Rattle.std.proofs.lemmas.Bool.Decides.{nat_tests}
 use Rattle.faults.specs.declared.FabricFault.TheVariants.{LinkOutside, CarriesAlready}
@@ -38,3 +38,11 @@ module _ (m : ℕ) (xs : List ℕ) (i : ℕ) (h : i < length xs) where
       let b = cond-none (mem at (take i xs)) (Refused (CarriesAlready at)) after a.1 in
       let s : cond (eqb at 0) true (ltb m at) ≡ false = a.0 in
       record { some = λ z. grind (arith, nat_tests); within = grind (arith, nat_tests); first = b.0; next = b.1 }
+
+-- No link of a list without a fault is 0.
+pub list-nonzero : (m : ℕ) (seen xs : List ℕ) → list_fault m seen xs ≡ None → (j : ℕ) → j < length xs → get_or xs j 0 ≡ 0 → ⊥
+list-nonzero m seen [] e j h z = absurd (omega arith)
+list-nonzero m seen (x ∷ xs) e zero h z = grind (arith, nat_tests)
+list-nonzero m seen (x ∷ xs) e (suc j) h z =
+    let a = cond-none (cond (eqb x 0) true (ltb m x)) (Refused (LinkOutside x)) _ e in
+    list-nonzero m (seen ++ x ∷ []) xs (cond-none (mem x seen) (Refused (CarriesAlready x)) _ a.1).1 j (omega arith) z

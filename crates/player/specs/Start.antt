@@ -1,5 +1,5 @@
 -- A start list, judged by itself.
-use Rattle.std.specs.Prelude.{ℕ, ◌<◌, Bool, true, false, cond, List, [], ◌∷◌, ◌++◌, length, Some, None, Option, ◌==◌, nat_lt, slice_index}
+use Rattle.std.specs.Prelude.{ℕ, ◌<◌, ◌≤◌, Bool, true, false, cond, List, [], ◌∷◌, ◌++◌, length, Some, None, Option, ◌==◌, nat_lt, slice_index}
 use Rattle.faults.specs.declared.FabricFault.TheVariants.{LinkOutside, CarriesAlready}
 use Rattle.faults.specs.declared.PlayerFault.{PlayerFault}
 use Rattle.faults.specs.declared.PlayerFault.TheVariants.{Refused}
@@ -20,3 +20,9 @@ list_fault m seen (x ∷ xs) =
 -- Each item of the list is larger than all before it.
 abbrev pub Ascends : List ℕ → Type 0
 Ascends xs = (i j : ℕ) → i < j → j < length xs → slice_index xs i < slice_index xs j
+
+-- An ascending list whose items below x are those before place `at`.
+pub record Parts (xs : List ℕ) (at x : ℕ) : Type 0 where
+  pub order : Ascends xs
+  pub under : (j : ℕ) → j < at → j < length xs → slice_index xs j < x
+  pub over : (j : ℕ) → at ≤ j → j < length xs → x ≤ slice_index xs j

@@ -18,9 +18,10 @@ struct Found {
     exact: bool,
 }
 
-/// Looks at every link in number order.
+/// Looks at every link in number order. In an ascending list `at` goes along.
 fn survey<F: Fabric>(fabric: &F, m: u32, list: &StartList) -> Found
-    requires { length (F.Fabric.carrying fabric.now) ≡ m }
+    requires size { length (F.Fabric.carrying fabric.now) ≡ m }
+    requires sound { list_fault m [] list.now.links.now ≡ None }
     ensures blank { result.blank ≡ agree (F.Fabric.carrying fabric.now) (only m []) }
     ensures exact { result.exact ≡ agree (F.Fabric.carrying fabric.now) (only m list.now.links.now) }
 {
@@ -28,10 +29,15 @@ fn survey<F: Fabric>(fabric: &F, m: u32, list: &StartList) -> Found
         blank: true,
         exact: true,
     };
+    let mut at = 0;
     for link in 1..=m {
         let on = fabric.look(link) == Ok(true);
+        let listed = list.lists_at(at, link);
         found.blank &= !on;
-        found.exact &= on == list.lists(link);
+        found.exact &= on == listed;
+        if listed {
+            at += 1;
+        }
     }
     found
 }

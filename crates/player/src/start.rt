@@ -1,7 +1,7 @@
-//! A start list. In an ascending one, as drawn plans have it, a link is found fast, and none is listed twice.
+//! A start list. In an ascending one, as drawn plans have it, no link is searched for, and none is listed twice.
 
 ghost use Rattle.std.specs.Prelude.{◌≡◌, true, []};
-ghost use Rattle.player.specs.Start.{mem, list_fault, Ascends};
+ghost use Rattle.player.specs.Start.{mem, list_fault, Ascends, Parts};
 ghost use Rattle.network.specs.Ends.{unless};
 
 use faults::{FabricFault, PlayerFault};
@@ -25,12 +25,13 @@ impl<'s> StartList<'s> {
         }
     }
 
-    /// Whether a link is in the list.
-    pub fn lists(&self, link: u32) -> bool
+    /// Whether a link is in the list. Where the list ascends, and `at` of its items are below the link, one look tells.
+    pub fn lists_at(&self, at: usize, link: u32) -> bool
+        requires { self.now.ascending ≡ true → Parts self.now.links.now at link }
         ensures { result ≡ mem link self.now.links.now }
     {
         if self.ascending {
-            self.links.binary_search(&link).is_ok()
+            at < self.links.len() && self.links[at] == link
         } else {
             self.links.contains(&link)
         }
