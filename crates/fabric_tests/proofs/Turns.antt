@@ -52,8 +52,8 @@ module _ (ws : List ℕ) (i : ℕ) (room : i < 32 * length ws) where
     | inr d ↦ ap (λ w. bit w (j % 32)) (get_or-set_other ws (i / 32) (j / 32) _ 0 d)
   ]
 
-  turned-flags-to : (m : ℕ) → i < m → (b : Bool) → flag ws i ≡ not b → flags m (turned ws i) ≡ set (flags m ws) i b
-  turned-flags-to m h b was =
+  pub turned-flags : (m : ℕ) → i < m → (b : Bool) → flag ws i ≡ not b → flags m (turned ws i) ≡ set (flags m ws) i b
+  turned-flags m h b was =
       let l = length_flags m ws in
       ext_get_or false (flags m (turned ws i)) (set (flags m ws) i b)
       (length_flags m (turned ws i) ∙ sym (length-set (flags m ws) i b ∙ l))
@@ -67,9 +67,10 @@ module _ (ws : List ℕ) (i : ℕ) (room : i < 32 * length ws) where
         | inr d ↦ turned-other j d ∙ sym (get_or-set_other (flags m ws) i j b false d ∙ flag_at m ws j jm)
       ])
 
-  pub turned-flags : (m : ℕ) → i < m → (b : Bool) → flag ws i ≡ not b → (v : ℕ) → v ≡ 2 ^ (i % 32) →
+  -- The same, by the word that a place is turned with.
+  pub turned-flags-by : (m : ℕ) → i < m → (b : Bool) → flag ws i ≡ not b → (v : ℕ) → v ≡ 2 ^ (i % 32) →
       flags m (set ws (i / 32) (bit_xor (get_or ws (i / 32) 0) v)) ≡ set (flags m ws) i b
-  turned-flags m h b was v e = ap (λ z. flags m (set ws (i / 32) (bit_xor (get_or ws (i / 32) 0) z))) e ∙ turned-flags-to m h b was
+  turned-flags-by m h b was v e = ap (λ z. flags m (set ws (i / 32) (bit_xor (get_or ws (i / 32) 0) z))) e ∙ turned-flags m h b was
 
 -- Blank words.
 module _ (m : ℕ) (ws : List ℕ) (none : bits_fault m (length ws) ≡ None) where
