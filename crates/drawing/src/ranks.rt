@@ -1,7 +1,6 @@
 //! The order of a network's links as a ranking.
 ghost use Rattle.std.specs.Prelude.{suc, length};
 ghost use Rattle.plans.specs.Network.{link_before};
-ghost use Rattle.drawing.specs.Ranks.{ranks-links};
 
 use forests::Ranking;
 use network::LinkState;
@@ -27,6 +26,4 @@ impl<W: Ordered> Ranking for ByStanding<'_, W> {
             Side::After => false,
         }
     }
-
-    ghost ranks = { λ r. ranks-links W.Ordered.side (record { level = W.Ordered.level; mirrored = W.Ordered.mirrored; back = W.Ordered.back; passes = W.Ordered.passes }) r.links.now };
 }

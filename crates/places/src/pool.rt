@@ -9,7 +9,6 @@ ghost use Rattle.plans.specs.Same.{pool};
 ghost use Rattle.network.specs.Ends.{unless};
 ghost use Rattle.places.specs.Changes.{changes_fault};
 ghost use Rattle.places.specs.Pool.{stands_before, set_to, weights_of, told_by, sourced, source_of, state_of, states, Judged, held_by, state_by, states_by, source_by};
-ghost use Rattle.places.specs.Ranks.{ranks-standings};
 
 use crate::changes::link_of;
 use crate::places::give_places;
@@ -189,8 +188,6 @@ impl<W: Ordered> Ranking for Pool<'_, '_, '_, W> {
         let v = self.standing(j);
         u.side_of(&v) == Side::Before
     }
-
-    ghost ranks = { λ r. ranks-standings W.Ordered.side (record { level = W.Ordered.level; mirrored = W.Ordered.mirrored; back = W.Ordered.back; passes = W.Ordered.passes }) (sourced r.links.now r.batch.now r.sources.now) };
 }
 
 /// Gives each standing of a pool a place: any two places are to each other as the two standings are. The order table is

@@ -23,8 +23,8 @@ pub struct Room {
     pub costs: Tables<Cost>,
     pub classes: Tables<Class>,
     pub ghost numbers_room: { max_bytes ≤ vec_capacity numbers },
-    pub ghost costs_empty: { Reserved costs },
-    pub ghost classes_empty: { Reserved classes },
+    pub ghost costs_reserved: { Reserved costs },
+    pub ghost classes_reserved: { Reserved classes },
 }
 
 impl Room {

@@ -2,6 +2,7 @@
 ghost use Rattle.std.specs.Prelude.{◌≡◌, Ok};
 ghost use Rattle.std.specs.Result.{result_and};
 ghost use Rattle.plant_tables.specs.File.{seen, linked, changed, placed};
+ghost use Rattle.plant_tables.specs.Room.{Roomy};
 
 use crate::plant::Tables;
 use crate::room::{MAX_CHANGES, MAX_LINKS};
@@ -13,7 +14,9 @@ use weights::Weight;
 impl<W: Weight> Tables<W> {
     /// Adds what one line tells.
     pub fn place(&mut self, item: Item<W>, line: u32) -> Result<(), TextFault>
-        ensures { result_and result (Ok (seen self.new)) ≡ placed (seen self.old) line item }
+        requires { Roomy self.old }
+        ensures told { result_and result (Ok (seen self.new)) ≡ placed (seen self.old) line item }
+        ensures room { Roomy self.new }
     {
         match item {
             Item::Head(_, _) => Err(TextFault::OutOfPlace(line)),
@@ -24,7 +27,9 @@ impl<W: Weight> Tables<W> {
 
     /// Adds a link, all of which come before the changes.
     fn add_link(&mut self, ends: Ends, weight: W, line: u32) -> Result<(), TextFault>
-        ensures { result_and result (Ok (seen self.new)) ≡ linked (seen self.old) line ends weight }
+        requires { Roomy self.old }
+        ensures told { result_and result (Ok (seen self.new)) ≡ linked (seen self.old) line ends weight }
+        ensures room { Roomy self.new }
     {
         if !self.changes.is_empty() {
             return Err(TextFault::OutOfPlace(line));
@@ -43,7 +48,9 @@ impl<W: Weight> Tables<W> {
 
     /// Adds a change.
     fn add_change(&mut self, change: Change<W>, line: u32) -> Result<(), TextFault>
-        ensures { result_and result (Ok (seen self.new)) ≡ changed (seen self.old) line change }
+        requires { Roomy self.old }
+        ensures told { result_and result (Ok (seen self.new)) ≡ changed (seen self.old) line change }
+        ensures room { Roomy self.new }
     {
         if self.changes.len() >= MAX_CHANGES {
             return Err(TextFault::OverCount(line));

@@ -4,7 +4,7 @@ ghost use Rattle.std.specs.Result.{result_and, result_map_both};
 ghost use Rattle.plant_tables.specs.File.{seen, blank};
 ghost use Rattle.plant_text.specs.Body.{body};
 ghost use Rattle.plant_text.specs.Plant.{whole, file_of, headed, lacks_head};
-ghost use Rattle.plant_tables.specs.Room.{Reserved};
+ghost use Rattle.plant_tables.specs.Room.{Roomy, Reserved};
 ghost use Rattle.text_words.specs.Split.{parts};
 
 use crate::plant::Plant;
@@ -81,6 +81,7 @@ fn read_body<W: Weight>(
     numbers: &mut Vec<u32>,
     text: &[u8],
 ) -> Result<Tables<W>, TextFault>
+    requires roomy { Roomy tables }
     requires room { 4096 ≤ vec_capacity numbers.old }
     requires short { length text.now < 4096 }
     ensures { result_map_both seen (λ e. e) result ≡ body W.Weight.made (seen tables) 2 (parts 10 text.now) }

@@ -101,8 +101,9 @@ impl Forest {
     }
 }
 
-/// The least forest: goes through links in order and keeps one exactly if the kept ones do not yet join its ends.
-pub fn least_forest(heap: Global, n: u32, mut links: Vec<Ranked>) -> Result<Forest, AllocError> {
+/// The least forest: goes through links in order and keeps one exactly if the kept ones do not yet join its ends. Gives the
+/// labels of the nodes that it joins, too.
+fn grow(heap: Global, n: u32, mut links: Vec<Ranked>) -> Result<(Forest, Labels), AllocError> {
     links.sort_unstable();
     let mut labels = Labels::apart(heap, n)?;
     let mut kept = BTreeSet::new(heap);
@@ -112,14 +113,17 @@ pub fn least_forest(heap: Global, n: u32, mut links: Vec<Ranked>) -> Result<Fore
             kept.insert(edge.number)?;
         }
     }
-    Ok(Forest { kept })
+    Ok((Forest { kept }, labels))
+}
+
+/// The least forest of some links.
+pub fn least_forest(heap: Global, n: u32, links: Vec<Ranked>) -> Result<Forest, AllocError> {
+    let (forest, _) = grow(heap, n, links)?;
+    Ok(forest)
 }
 
 /// The least tree of a network, the least forest of its present links, if these join all nodes.
 pub fn least_tree(heap: Global, n: u32, links: &[Link]) -> Result<Option<Forest>, AllocError> {
-    if !joined(heap, n, links)? {
-        return Ok(None);
-    }
     let present = (1u32..)
         .zip(links)
         .filter(|(_, link)| link.present)
@@ -128,7 +132,8 @@ pub fn least_tree(heap: Global, n: u32, links: &[Link]) -> Result<Option<Forest>
             edge: Edge::of(number, link),
         })
         .collect(heap)?;
-    Ok(Some(least_forest(heap, n, present)?))
+    let (forest, labels) = grow(heap, n, present)?;
+    Ok(labels.all_joined().then_some(forest))
 }
 
 /// Whether the present links of a network join all its nodes.

@@ -22,7 +22,7 @@ loop-i-preserved g c =
     let s : k + 1 - 1 ≡ k = omega arith in
     let p : lt (f (k - 1)) (f k) ≡ c.precedes.result = ap (λ x. lt x (f k)) (sym i.last) ∙ sym c.precedes.ensures in
     let v : c.if-precedes.step ≡ rank lt f k = elim c.if-precedes.branch [
-      | then-precedes w ↦ w.step-is ∙ ap (λ x. x + 1) i.step ∙ sym (rank_up lt f (g.met.R.Ranking.ranks c.args.ranking.now) k (p ∙ w.if-precedes.true))
+      | then-precedes w ↦ w.step-is ∙ ap (λ x. x + 1) i.step ∙ sym (rank_up lt f c.requires.ranks k (p ∙ w.if-precedes.true))
       | else-precedes w ↦ w.step-is ∙ i.step ∙ sym (rank-level lt f k (p ∙ w.if-precedes.false))
     ] in
     let l : get_or c.args.order.now k 0 < length c.loop-i.places =
@@ -30,5 +30,5 @@ loop-i-preserved g c =
     record {
       last = rw s refl;
       step = rw s v;
-      numbered = numbered lt f (g.met.R.Ranking.ranks c.args.ranking.now) (length c.args.order.now) c.requires.sorted c.loop-i.places k c.if-precedes.step c.loop-i-test.true l v i.numbered;
+      numbered = numbered lt f c.requires.ranks (length c.args.order.now) c.requires.sorted c.loop-i.places k c.if-precedes.step c.loop-i-test.true l v i.numbered;
     }

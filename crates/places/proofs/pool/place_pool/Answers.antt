@@ -2,8 +2,15 @@ use Rattle.std.proofs.Common.{◌≡◌, length, arith}
 use Rattle.std.proofs.lemmas.List.{length-map}
 use Rattle.plans.specs.Network.{Sided}
 use Rattle.places.specs.Pool.{weights_of, told_by, sourced}
+use Rattle.places.specs.Ranks.{ranks-standings}
 use Rattle.places.proofs.Pooled.{places-compared}
 use Rattle.places.proofs.pool.place_pool.Goals as goal
+
+pub give_places-requires-clause-ranks : goal.give_places-requires-clause-ranks
+give_places-requires-clause-ranks g c =
+    let m = g.met.W.Ordered in
+    let pool = c.args.pool.now in
+    ranks-standings g.W.Ordered.side (record { level = m.level; mirrored = m.mirrored; back = m.back; passes = m.passes }) (sourced pool.links.now pool.batch.now pool.sources.now)
 
 pub returns : goal.returns
 returns g c = λ i j li lj.

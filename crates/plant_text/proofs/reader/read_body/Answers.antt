@@ -17,14 +17,15 @@ pub returns-in_err-place : goal.returns-in_err-place
 returns-in_err-place g c =
     let p = err_from_is_err_and c.from_residual-in_err-place.result c.from_residual-in_err-place.ensures.1 in
     rw (p.1, p.2)
-    (body-place g.W.Weight.made (seen c.loop-row.tables) c.loop-row.line _ _ _ c.in-Some.ensures _ _ c.in_ok-item.ensures.told c.in_err-place.ensures ∙ c.loop-row.invariant.left)
+    (body-place g.W.Weight.made (seen c.loop-row.tables) c.loop-row.line _ _ _ c.in-Some.ensures _ _ c.in_ok-item.ensures.told c.in_err-place.ensures.told ∙ c.loop-row.invariant.left)
 
 pub loop-row-preserved : goal.loop-row-preserved
 loop-row-preserved g c = record {
   few = omega (arith, c.in-Some.ensures.sizes);
   short = omega (arith, c.in-Some.ensures.sizes);
-  left = body_more g.W.Weight.made (seen c.loop-row.tables) c.loop-row.line _ _ _ c.in-Some.ensures _ _ c.in_ok-item.ensures.told c.in_ok-place.ensures ∙ c.loop-row.invariant.left;
+  left = body_more g.W.Weight.made (seen c.loop-row.tables) c.loop-row.line _ _ _ c.in-Some.ensures _ _ c.in_ok-item.ensures.told c.in_ok-place.ensures.told ∙ c.loop-row.invariant.left;
   room = omega (arith, c.read_line.ensures.room);
+  roomy = c.in_ok-place.ensures.room;
 }
 
 pub returns-then-is_empty : goal.returns-then-is_empty

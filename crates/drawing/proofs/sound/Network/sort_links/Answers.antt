@@ -3,10 +3,15 @@ use Rattle.plans.specs.Network.{Sided, link_before}
 use Rattle.forests.proofs.Indexing.{indexes-shuffled}
 use Rattle.forests.proofs.InOrder.{positions-ordered}
 use Rattle.places.proofs.Names.{own-names}
-use Rattle.drawing.specs.Ranks.{strict-links}
+use Rattle.drawing.specs.Ranks.{strict-links, ranks-links}
 use Rattle.drawing.specs.Tree.{link_at}
 use Rattle.drawing.proofs.Fits.{ends-between}
 use Rattle.drawing.proofs.sound.Network.sort_links.Goals as goal
+
+pub sort-requires-clause-ranks : goal.sort-requires-clause-ranks
+sort-requires-clause-ranks g c =
+    let m = g.met.W.Ordered in
+    ranks-links g.W.Ordered.side (record { level = m.level; mirrored = m.mirrored; back = m.back; passes = m.passes }) c.args.self.now.links.now
 
 pub lay_out-requires-clause-within : goal.lay_out-requires-clause-within
 lay_out-requires-clause-within g c = indexes-shuffled c.args.order.now c.sort.new.order _ c.sort.ensures.shuffled c.requires.within
