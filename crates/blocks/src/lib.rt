@@ -36,6 +36,7 @@ fn top_blocks(
     ensures entries { entries_in out.new ≡ entries places.old (links_in graph.entry.links.now) (moves_in moves.now) }
     ensures count { result.work ≡ total places.old (graph_of graph.entry) (moves_in moves.now) }
     ensures tear { Tear absent places.old (links_in graph.entry.links.now) (moves_in moves.now) result }
+    ensures changes { result.changes ≡ length moves.now }
 {
     let mut tally = Tally::new(absent);
     let mut i = 0;
@@ -76,6 +77,7 @@ pub fn batch(
     ensures entries { entries_in out.new ≡ entries places.old (links_in graph.entry.links.now) (moves_in moves.now) }
     ensures count { result.work ≡ total places.old (graph_of graph.entry) (moves_in moves.now) }
     ensures tear { Tear absent places.old (links_in graph.entry.links.now) (moves_in moves.now) result }
+    ensures changes { result.changes ≡ length moves.now }
 {
     let m = places.len();
     let n = graph.nodes as usize;

@@ -11,7 +11,7 @@ use Rattle.plans.proofs.Orders.{strict-by}
 use Rattle.plans.proofs.Standings.{lawful-standing}
 
 -- A strict total order ranks.
-ranks-strict : (lt : ℕ → ℕ → Bool) → Strict lt → IsStrictWeakOrder lt
+pub ranks-strict : (lt : ℕ → ℕ → Bool) → Strict lt → IsStrictWeakOrder lt
 ranks-strict lt o = record {
   one_way = λ i j h. elim (cases_Bool (lt j i)) [
     | inr n ↦ n
@@ -28,7 +28,7 @@ ranks-strict lt o = record {
 }
 
 -- So does one of the numbers one higher.
-ranks-suc : (lt : ℕ → ℕ → Bool) → IsStrictWeakOrder lt → IsStrictWeakOrder (λ i j. lt (suc i) (suc j))
+pub ranks-suc : (lt : ℕ → ℕ → Bool) → IsStrictWeakOrder lt → IsStrictWeakOrder (λ i j. lt (suc i) (suc j))
 ranks-suc lt r = record {
   one_way = λ i j h. r.one_way (suc i) (suc j) h;
   chain = λ i j k h l. r.chain (suc i) (suc j) (suc k) h l;

@@ -7,7 +7,7 @@ use Rattle.forests.specs.Union.{Falls, Holds}
 use Rattle.forests.proofs.Table.{set-each}
 
 -- Halving the way at x keeps the parents falling,
-halved-falls : (ps : List ℕ) (x up next : ℕ) → x < length ps → up ≡ get_or ps x 0 → next ≡ get_or ps up 0 → Falls ps → Falls (set ps x next)
+pub halved-falls : (ps : List ℕ) (x up next : ℕ) → x < length ps → up ≡ get_or ps x 0 → next ≡ get_or ps up 0 → Falls ps → Falls (set ps x next)
 halved-falls ps x up next lt u n f =
     set-each ps x next (λ y v. v ≤ y) lt (λ y h ne. f y h) (omega (arith, f x lt, f up (omega (arith, f x lt))))
 

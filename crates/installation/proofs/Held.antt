@@ -67,7 +67,7 @@ mapped-none : {X Y : Type 0} (f : X → Y) (o : Option X) → option_map f o ≡
 mapped-none f None e = refl
 mapped-none f (Some x) e = absurd (cc)
 
-some-within : {X : Type 0} (os : List (Option X)) (s : ℕ) (x : X) → get_or os s None ≡ Some x → s < length os
+pub some-within : {X : Type 0} (os : List (Option X)) (s : ℕ) (x : X) → get_or os s None ≡ Some x → s < length os
 some-within os s x e =
     elim (cases_lt s (length os)) [ inl h ↦ h | inr h ↦ absurd (let a = get_or_past os s None h in cc) ]
 

@@ -33,7 +33,7 @@ module _ (absent : ℕ) (ps : List ℕ) where
       ap (λ (x : List Link). late absent ps (map (λ (e : Link). e.number) x)) (cond-true _ _ _ l)
       ∙ ap (λ b. leb absent (place_of ps e.number) || b) (or-none (leb absent (place_of ps f.number)))
 
-  torn-none : (es : List Link) → length es ≡ 0 → false ≡ torn_at absent ps es
+  pub torn-none : (es : List Link) → length es ≡ 0 → false ≡ torn_at absent ps es
   unfolding late_by numbers ordered greedy
   torn-none [] l = refl
   torn-none (e ∷ es) l = absurd (omega arith)
@@ -47,19 +47,19 @@ module _ (absent : ℕ) (ps : List ℕ) where
     unfolding late_by
     crossed h = ap (late absent ps) (tree-crossed ps e f h) ∙ or-none (leb absent (place_of ps (winner ps (e ∷ f ∷ []))))
 
-    torn-first : crossing e.a.0 e.b.0 f.a.0 f.b.0 ≡ true → place_before ps e.number f.number ≡ true → late_link absent ps e ≡ torn_at absent ps (e ∷ f ∷ [])
+    pub torn-first : crossing e.a.0 e.b.0 f.a.0 f.b.0 ≡ true → place_before ps e.number f.number ≡ true → late_link absent ps e ≡ torn_at absent ps (e ∷ f ∷ [])
     unfolding winner
     torn-first h b =
         let c = cross-true e.a.0 e.b.0 f.a.0 f.b.0 h in
         cond-false _ _ _ c.0 ∙ ap (λ k. leb absent (place_of ps k)) (sym (cond-true _ _ _ h ∙ cond-true _ _ _ b)) ∙ sym (crossed h)
 
-    torn-second : crossing e.a.0 e.b.0 f.a.0 f.b.0 ≡ true → place_before ps e.number f.number ≡ false → late_link absent ps f ≡ torn_at absent ps (e ∷ f ∷ [])
+    pub torn-second : crossing e.a.0 e.b.0 f.a.0 f.b.0 ≡ true → place_before ps e.number f.number ≡ false → late_link absent ps f ≡ torn_at absent ps (e ∷ f ∷ [])
     unfolding winner
     torn-second h b =
         let c = cross-true e.a.0 e.b.0 f.a.0 f.b.0 h in
         cond-false _ _ _ c.2 ∙ ap (λ k. leb absent (place_of ps k)) (sym (cond-true _ _ _ h ∙ cond-false _ _ _ b)) ∙ sym (crossed h)
 
-    torn-open : crossing e.a.0 e.b.0 f.a.0 f.b.0 ≡ false → ltb e.number f.number ≡ true → (late_link absent ps e || late_link absent ps f) ≡ torn_at absent ps (e ∷ f ∷ [])
+    pub torn-open : crossing e.a.0 e.b.0 f.a.0 f.b.0 ≡ false → ltb e.number f.number ≡ true → (late_link absent ps e || late_link absent ps f) ≡ torn_at absent ps (e ∷ f ∷ [])
     unfolding only
     torn-open h l = sym (ap (late absent ps) (tree-open ps e f l h) ∙ late-two (eqb e.a.0 e.b.0) (eqb f.a.0 f.b.0) e f l)
 

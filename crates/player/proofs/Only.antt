@@ -16,7 +16,7 @@ pub length-only : (m : ℕ) (xs : List ℕ) → length (only m xs) ≡ m
 length-only zero xs = refl
 length-only (suc m) xs = omega (arith, length-append (only m xs) (mem (suc m) xs ∷ []), length-only m xs)
 
-only_at : (m : ℕ) (xs : List ℕ) (i : ℕ) → i < m → get_or (only m xs) i false ≡ mem (suc i) xs
+pub only_at : (m : ℕ) (xs : List ℕ) (i : ℕ) → i < m → get_or (only m xs) i false ≡ mem (suc i) xs
 only_at zero xs i h = absurd (omega arith)
 only_at (suc m) xs i h = elim (cases_lt i m) [
   | inl l ↦ get_or_append_left (only m xs) (mem (suc m) xs ∷ []) false i (omega (arith, length-only m xs)) ∙ only_at m xs i l
@@ -30,7 +30,7 @@ carries-only m xs k some most =
     let s : suc (k - 1) ≡ k = omega arith in only_at m xs (k - 1) (omega arith) ∙ ap (λ y. mem y xs) s
 
 -- One link more.
-only_set : (m : ℕ) (xs : List ℕ) (x : ℕ) → (x ≡ 0 → ⊥) → x ≤ m → set (only m xs) (x - 1) true ≡ only m (xs ++ x ∷ [])
+pub only_set : (m : ℕ) (xs : List ℕ) (x : ℕ) → (x ≡ 0 → ⊥) → x ≤ m → set (only m xs) (x - 1) true ≡ only m (xs ++ x ∷ [])
 only_set m xs x n h =
     let l : length (set (only m xs) (x - 1) true) ≡ m = length-set (only m xs) (x - 1) true ∙ length-only m xs in
     ext_get_or false (set (only m xs) (x - 1) true) (only m (xs ++ x ∷ []))
@@ -58,7 +58,7 @@ agree-is (true ∷ xs) (false ∷ ys) e = cc
 agree-is (false ∷ xs) (true ∷ ys) e = cc
 agree-is (false ∷ xs) (false ∷ ys) e = ap (λ t. false ∷ t) (agree-is xs ys e)
 
-agree-self : (c : List Bool) → agree c c ≡ true
+pub agree-self : (c : List Bool) → agree c c ≡ true
 agree-self [] = refl
 agree-self (true ∷ xs) = agree-self xs
 agree-self (false ∷ xs) = agree-self xs

@@ -10,10 +10,10 @@ use Rattle.player.specs.Start.{mem, Ascends, Parts}
 mem-step : (x y : ℕ) (ys : List ℕ) → mem x (y ∷ ys) ≡ (eqb x y || mem x ys)
 mem-step x y ys = grind (arith, nat_tests)
 
-mem-place : (x : ℕ) (xs : List ℕ) (j : ℕ) → j < length xs → x ≡ get_or xs j 0 → mem x xs ≡ true
+pub mem-place : (x : ℕ) (xs : List ℕ) (j : ℕ) → j < length xs → x ≡ get_or xs j 0 → mem x xs ≡ true
 mem-place x xs j h e = or_at (mem x) (eqb x) refl (mem-step x) xs j 0 h (eq-eqb x (get_or xs j 0) e)
 
-mem-nowhere : (x : ℕ) (xs : List ℕ) → ((j : ℕ) → j < length xs → x ≡ get_or xs j 0 → ⊥) → mem x xs ≡ false
+pub mem-nowhere : (x : ℕ) (xs : List ℕ) → ((j : ℕ) → j < length xs → x ≡ get_or xs j 0 → ⊥) → mem x xs ≡ false
 mem-nowhere x xs n = or_from_places (mem x) (eqb x) refl (mem-step x) xs 0 (λ j h. ne_eqb x (get_or xs j 0) (n j h))
 
 pub mem-push : (y x : ℕ) (xs : List ℕ) → mem y (xs ++ x ∷ []) ≡ (mem y xs || eqb y x)
@@ -39,8 +39,8 @@ module _ (xs : List ℕ) (at x : ℕ) (p : Parts xs at x) where
   pub parts-past : length xs ≤ at → mem x xs ≡ false
   parts-past h = mem-nowhere x xs (λ j g e. let s = elsewhere j g e in omega arith)
 
-  pub parts-hit : mem x xs ≡ true → Parts xs (at + 1) (x + 1)
-  parts-hit e = elim (cases_lt at (length xs)) [
+  pub parts-step : mem x xs ≡ true → Parts xs (at + 1) (x + 1)
+  parts-step e = elim (cases_lt at (length xs)) [
     | inl l ↦ elim (cases_eq (get_or xs at 0) x) [
       | inl s ↦ record {
         order = p.order;
@@ -55,8 +55,8 @@ module _ (xs : List ℕ) (at x : ℕ) (p : Parts xs at x) where
     | inr g ↦ absurd (true≢false (sym e ∙ parts-past g))
   ]
 
-  pub parts-miss : mem x xs ≡ false → Parts xs at (x + 1)
-  parts-miss e = record {
+  pub parts-after-miss : mem x xs ≡ false → Parts xs at (x + 1)
+  parts-after-miss e = record {
     order = p.order;
     under = λ j b h. omega (arith, p.under j b h);
     over = λ j b h. elim (cases_eq x (get_or xs j 0)) [

@@ -1,5 +1,5 @@
-use Rattle.std.proofs.Common.{◌≡◌, ℕ, ◌+◌, ◌-◌, ◌≤◌, List, length, take, drop, sym, ◌∙◌, subst, arith}
-use Rattle.std.proofs.lemmas.List.{length-map, length-drop, length-take-le}
+use Rattle.std.proofs.Common.{◌≡◌, ℕ, ◌+◌, ◌-◌, ◌≤◌, List, length, take, drop, sym, ap, ◌∙◌, subst, arith}
+use Rattle.std.proofs.lemmas.List.{length-map, length-drop, length-take-le, take_all}
 use Rattle.block_records.specs.declared.Move.{Move}
 use Rattle.block_records.specs.Words.{move_of, links_in, moves_in, exchange_of, entries_in, link_of}
 use Rattle.blocks.specs.Block.{graph_of, Known}
@@ -81,3 +81,10 @@ returns-clause-count c =
     let n = length-map c.args.moves.now move_of in
     let o = length-map c.loop-i.out exchange_of in
     (made_all c.args.places.now c.loop-i.places (graph_of c.args.graph) (moves_in c.args.moves.now) (entries_in c.loop-i.out) c.loop-i.tally.work c.loop-i.i c.loop-i.invariant.1 (omega arith) (omega (arith, c.loop-i.auto.out, c.requires.room.0))).2
+
+pub returns-clause-changes : goal.returns-clause-changes
+returns-clause-changes c =
+    let all : List (Move ℕ) = moves_in c.args.moves.now in
+    let n = length-map c.args.moves.now move_of in
+    let k : take c.loop-i.i all ≡ all = take_all c.loop-i.i all (omega arith) in
+    omega (arith, c.loop-i.invariant.2.counts, ap length k)

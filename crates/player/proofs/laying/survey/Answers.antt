@@ -4,7 +4,7 @@ use Rattle.fabrics.specs.Meaning.{carries}
 use Rattle.player.specs.Start.{Parts}
 use Rattle.player.proofs.Grants.{among_in, look-tells}
 use Rattle.player.proofs.Only.{Judged, judged-more, judged-all, unlisted}
-use Rattle.player.proofs.Places.{parts-start, parts-hit, parts-miss}
+use Rattle.player.proofs.Places.{parts-start, parts-step, parts-after-miss}
 use Rattle.player.proofs.Walks.{list-nonzero}
 use Rattle.player.proofs.laying.survey.Goals as goal
 use Rattle.player.proofs.laying.survey.Goals.{then-listed, else-listed}
@@ -32,10 +32,10 @@ loop-link-preserved g c =
       λ a. elim c.if-listed.branch [
         | then-listed w ↦
             subst (λ i. Parts xs i (link + 1)) (sym w.at-is)
-            (parts-hit xs c.loop-link.at link (c.loop-link.invariant.3 a) (sym c.lists_at-listed.ensures ∙ w.if-listed.true))
+            (parts-step xs c.loop-link.at link (c.loop-link.invariant.3 a) (sym c.lists_at-listed.ensures ∙ w.if-listed.true))
         | else-listed w ↦
             subst (λ i. Parts xs i (link + 1)) (sym w.at-is)
-            (parts-miss xs c.loop-link.at link (c.loop-link.invariant.3 a) (sym c.lists_at-listed.ensures ∙ w.if-listed.false))
+            (parts-after-miss xs c.loop-link.at link (c.loop-link.invariant.3 a) (sym c.lists_at-listed.ensures ∙ w.if-listed.false))
       ],
     )
 
