@@ -5,6 +5,7 @@ use plant_text::{Plant, Room, Tables, read_plant};
 use std::alloc::{AllocError, Global};
 use std::process::Abort;
 use std::test::Fail;
+use weights::Cost;
 
 /// What a text tells, in short: its kind, and how many nodes, links and changes; or the refusal.
 fn answer(heap: Global, text: &[u8]) -> Result<String, AllocError> {
@@ -52,6 +53,23 @@ fn repeated(heap: Global, first: &str, more: &str, times: usize) -> Result<Strin
         text.push_str(more)?;
     }
     Ok(text)
+}
+
+/// Takes the last change away, and leaves its line: tables hold no facts that a reader would have to keep.
+fn without_last(mut tables: Tables<Cost>) -> Tables<Cost> {
+    let _ = tables.changes.pop();
+    tables
+}
+
+#[test]
+fn tables_may_be_changed(rt: HostRuntime) -> Result<(), Fail> {
+    let room = Room::reserve(rt.alloc())?;
+    let Ok(Plant::Costs(tables)) = read_plant(room, "N 2\nL 1 2 5\nS 1 9\n".as_bytes()) else {
+        return Err(Fail::new("refused"));
+    };
+    let tables = without_last(tables);
+    assert_eq!(rt; counts(rt.alloc(), 'N', tables)?.as_str(), "N 2 1 0");
+    Ok(())
 }
 
 #[test]
