@@ -4,6 +4,7 @@ ghost use Rattle.std.specs.Iterator.{IsFinite};
 use crate::failure::Failure;
 use crate::group::Group;
 use crate::simple::forecast;
+use crate::simple::tree::Forest;
 use crate::tally::{Finding, Tally};
 use fabrics::{Fabric, LinkMap};
 use faults::{Fault, Layer, PlayerFault};
@@ -46,6 +47,21 @@ pub fn play(
         .tally
         .expect(rest_stands(cells.as_slice(), size), Finding::Memory);
     Ok(())
+}
+
+/// Whether exactly the links that two trees have in common carry. The common links go along, so that none is searched for.
+fn carries_common<F: Fabric>(fabric: &F, one: &Forest, other: &Forest) -> bool {
+    let mut common = one.common(other);
+    let mut next = common.next().copied();
+    let mut same = true;
+    for link in 1..=fabric.size() {
+        let wanted = next == Some(link);
+        if wanted {
+            next = common.next().copied();
+        }
+        same &= fabric.look(link) == Ok(wanted);
+    }
+    same
 }
 
 /// Whether nothing was written past the first bytes.
@@ -173,10 +189,10 @@ impl<'a, 's, 'e, F: Fabric + Drop> Tour<'a, 's, 'e, F> {
             ..
         } = self;
         tally.count_moment();
-        let same = (1..=fabric.size()).all(|link| {
-            let wanted = trees.keeps(one, link) && trees.keeps(other, link);
-            fabric.look(link) == Ok(wanted)
-        });
+        let same = match (trees.trees.get(one), trees.trees.get(other)) {
+            (Some(one), Some(other)) => carries_common(fabric, one, other),
+            _ => false,
+        };
         tally.expect(same, Finding::Carrying);
     }
 

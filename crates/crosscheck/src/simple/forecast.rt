@@ -182,13 +182,6 @@ pub struct Plan {
     pub links: Vec<Link>,
 }
 
-impl Plan {
-    /// Whether the tree of a moment has a link.
-    pub fn keeps(&self, moment: usize, link: u32) -> bool {
-        self.trees.get(moment).is_some_and(|tree| tree.keeps(link))
-    }
-}
-
 /// The entry of a change between two trees: the link that only the first has, and the one that only the second has.
 fn entry(before: &Forest, after: &Forest) -> (u32, u32) {
     let leaving = before.only_here(after).unwrap_or(0);

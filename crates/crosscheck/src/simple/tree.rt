@@ -3,6 +3,7 @@ use crate::simple::order::{Edge, Rank, Ranked};
 use crate::simple::records::{Link, index};
 use std::alloc::{AllocError, Global};
 use std::collections::BTreeSet;
+use std::collections::btree_set::Intersection;
 
 /// What stands at a node's place in a table, or 0.
 fn at(table: &[u32], node: u32) -> u32 {
@@ -35,9 +36,7 @@ impl Labels {
             return false;
         }
         for label in self.labels.iter_mut() {
-            if *label == goes {
-                *label = stays;
-            }
+            *label = if *label == goes { stays } else { *label };
         }
         true
     }
@@ -93,6 +92,11 @@ impl Forest {
     /// The numbers of the kept links, ascending.
     pub fn numbers(&self, heap: Global) -> Result<Vec<u32>, AllocError> {
         self.kept.iter().copied().collect(heap)
+    }
+
+    /// The links that both keep, ascending.
+    pub fn common<'a>(&'a self, other: &'a Forest) -> Intersection<'a, u32, Global> {
+        self.kept.intersection(&other.kept)
     }
 
     /// The first link that this forest keeps and the other does not.
