@@ -15,6 +15,7 @@ use Rattle.text_words.specs.declared.token.Letter.{Letter}
 use Rattle.text_words.specs.declared.token.Letter.TheVariants.{Costs, Classes, Link, Set, Remove, Flip}
 use Rattle.plant_tables.specs.File.{File, seen, then, blank}
 use Rattle.plant_text.specs.Body.{body}
+use Rattle.plant_tables.specs.Room.{Roomy}
 use Rattle.plant_tables.specs.Limits.{max_bytes, max_nodes}
 use Rattle.plant_lines.specs.Line.{line_at}
 use Rattle.text_words.specs.Letter.{letter_of}
@@ -29,6 +30,11 @@ pub data Whole : Type 0 where
 abbrev pub whole : Plant → Whole
 whole (plant.Costs t) = costs (seen t)
 whole (plant.Classes t) = classes (seen t)
+
+-- its tables have memory for all that a text may tell, and a line for each link and change
+abbrev pub roomy : Plant → Type 0
+roomy (plant.Costs t) = Roomy t
+roomy (plant.Classes t) = Roomy t
 
 -- L, S, R and T, which no first line starts with
 abbrev pub is_later : Option Letter → Bool

@@ -1,9 +1,9 @@
 //! The whole text.
-ghost use Rattle.std.specs.Prelude.{◌≡◌, ◌<◌, ◌≤◌, Ok, length, vec_capacity};
+ghost use Rattle.std.specs.Prelude.{◌≡◌, ◌<◌, ◌≤◌, Ok, length, vec_capacity, IfOk};
 ghost use Rattle.std.specs.Result.{result_and, result_map_both};
 ghost use Rattle.plant_tables.specs.File.{seen, blank};
 ghost use Rattle.plant_text.specs.Body.{body};
-ghost use Rattle.plant_text.specs.Plant.{whole, file_of, headed, lacks_head};
+ghost use Rattle.plant_text.specs.Plant.{whole, roomy, file_of, headed, lacks_head};
 ghost use Rattle.plant_tables.specs.Room.{Roomy, Reserved};
 ghost use Rattle.text_words.specs.Split.{parts};
 
@@ -20,7 +20,8 @@ const MAX_NODES: u32 = 32;
 /// The plant that a text tells, or why it is refused. All memory that it needs is in the room already, so that it
 /// always answers what the format says of this text.
 pub fn read_plant(mut room: Room, input: &[u8]) -> Result<Plant, TextFault>
-    ensures { result_map_both whole (λ e. e) result ≡ file_of input.now }
+    ensures told { result_map_both whole (λ e. e) result ≡ file_of input.now }
+    ensures room { IfOk result roomy }
 {
     if input.len() > MAX_BYTES {
         return Err(TextFault::OverCount(0));
@@ -53,7 +54,8 @@ fn lacks_head(input: &[u8]) -> bool
 /// The plant of this kind with n nodes and these lines.
 fn read_rest(room: Room, kind: Kind, n: u32, text: &[u8]) -> Result<Plant, TextFault>
     requires { length text.now < 4096 }
-    ensures { result_map_both whole (λ e. e) result ≡ headed (parts 10 text.now) kind n }
+    ensures told { result_map_both whole (λ e. e) result ≡ headed (parts 10 text.now) kind n }
+    ensures room { IfOk result roomy }
 {
     if n > MAX_NODES {
         return Err(TextFault::OverCount(1));
@@ -84,7 +86,8 @@ fn read_body<W: Weight>(
     requires roomy { Roomy tables }
     requires room { 4096 ≤ vec_capacity numbers.old }
     requires short { length text.now < 4096 }
-    ensures { result_map_both seen (λ e. e) result ≡ body W.Weight.made (seen tables) 2 (parts 10 text.now) }
+    ensures told { result_map_both seen (λ e. e) result ≡ body W.Weight.made (seen tables) 2 (parts 10 text.now) }
+    ensures room { IfOk result Roomy }
 {
     let mut rest = text;
     // Counted by hand: a `for` over a slice's split gets no proof in a generic function.

@@ -7,14 +7,14 @@ use Rattle.plant_text.proofs.reader.read_body.Goals as goal
 pub read_line-requires : goal.read_line-requires
 read_line-requires g c = omega (arith, c.in-Some.ensures.sizes)
 
-pub returns-in_err-item : goal.returns-in_err-item
-returns-in_err-item g c =
+pub returns-in_err-item-clause-told : goal.returns-in_err-item-clause-told
+returns-in_err-item-clause-told g c =
     let p = err_from_is_err_and c.from_residual.result c.from_residual.ensures.1 in
     rw (p.1, p.2)
     (body-line g.W.Weight.made (seen c.loop-row.tables) c.loop-row.line _ _ _ c.in-Some.ensures _ c.in_err-item.ensures.told ∙ c.loop-row.invariant.left)
 
-pub returns-in_err-place : goal.returns-in_err-place
-returns-in_err-place g c =
+pub returns-in_err-place-clause-told : goal.returns-in_err-place-clause-told
+returns-in_err-place-clause-told g c =
     let p = err_from_is_err_and c.from_residual-in_err-place.result c.from_residual-in_err-place.ensures.1 in
     rw (p.1, p.2)
     (body-place g.W.Weight.made (seen c.loop-row.tables) c.loop-row.line _ _ _ c.in-Some.ensures _ _ c.in_ok-item.ensures.told c.in_err-place.ensures.told ∙ c.loop-row.invariant.left)
@@ -28,10 +28,10 @@ loop-row-preserved g c = record {
   roomy = c.in_ok-place.ensures.room;
 }
 
-pub returns-then-is_empty : goal.returns-then-is_empty
-returns-then-is_empty g c =
+pub returns-then-is_empty-clause-told : goal.returns-then-is_empty-clause-told
+returns-then-is_empty-clause-told g c =
     body_end g.W.Weight.made (seen c.loop-row.tables) c.loop-row.line c.loop-row.rest.now c.in_default.ensures (true-eqb _ 0 c.if-is_empty.ensures) ∙ c.loop-row.invariant.left
 
-pub returns-else-is_empty : goal.returns-else-is_empty
-returns-else-is_empty g c =
+pub returns-else-is_empty-clause-told : goal.returns-else-is_empty-clause-told
+returns-else-is_empty-clause-told g c =
     body_open g.W.Weight.made (seen c.loop-row.tables) c.loop-row.line c.loop-row.rest.now c.in_default.ensures (omega (arith, false-eqb _ 0 c.if-is_empty.ensures)) ∙ c.loop-row.invariant.left
