@@ -1,4 +1,4 @@
--- The order of links ranks: the proof that its ranking brings.
+-- The order of links ranks, as sorting by it asks.
 use Rattle.std.specs.Prelude.{ℕ, suc, Bool, List}
 use Rattle.std.proofs.Common.{inl, inr}
 use Rattle.std.specs.Cmp.{IsStrictWeakOrder}

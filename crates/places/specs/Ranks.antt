@@ -1,4 +1,4 @@
--- Standings rank: the proof that the ranking of a pool brings.
+-- Standings rank, as sorting a pool by them asks.
 use Rattle.std.specs.Prelude.{List, slice_index_or, ◌||◌}
 use Rattle.std.proofs.Common.{inl, inr}
 use Rattle.std.specs.Cmp.{IsStrictWeakOrder}

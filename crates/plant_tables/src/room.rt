@@ -1,7 +1,6 @@
 //! The memory that a reading needs, taken once, before the first byte is read.
-ghost use Rattle.std.specs.Prelude.{◌≤◌, IfOk, vec_capacity};
-ghost use Rattle.plant_tables.specs.Limits.{max_bytes};
-ghost use Rattle.plant_tables.specs.Room.{Reserved};
+ghost use Rattle.std.specs.Prelude.{IfOk};
+ghost use Rattle.plant_tables.specs.Room.{Reserved, Ready};
 
 use crate::plant::Tables;
 use std::alloc::{AllocError, Global};
@@ -16,21 +15,19 @@ pub const MAX_LINKS: usize = 64;
 /// The most changes that a text may tell.
 pub const MAX_CHANGES: usize = 128;
 
-/// Room for the numbers of any line, and for a plant of either kind of weights, still empty.
+/// Room for the numbers of one line, and for a plant of either kind of weights. It holds no facts, as the tables hold none:
+/// who has it may use its memory as he likes.
 #[derive(Drop)]
 pub struct Room {
     pub numbers: Vec<u32>,
     pub costs: Tables<Cost>,
     pub classes: Tables<Class>,
-    pub ghost numbers_room: { max_bytes ≤ vec_capacity numbers },
-    pub ghost costs_reserved: { Reserved costs },
-    pub ghost classes_reserved: { Reserved classes },
 }
 
 impl Room {
     /// Takes all the memory that reading any text can need. Nothing else of a reading asks for memory.
     pub fn reserve(heap: Global) -> Result<Room, AllocError>
-        ensures { IfOk result (λ r. Reserved r.costs × Reserved r.classes) }
+        ensures { IfOk result Ready }
     {
         Ok(Room {
             numbers: Vec::with_capacity(heap, MAX_BYTES)?,

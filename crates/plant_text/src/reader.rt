@@ -4,7 +4,7 @@ ghost use Rattle.std.specs.Result.{result_and, result_map_both};
 ghost use Rattle.plant_tables.specs.File.{seen, blank};
 ghost use Rattle.plant_text.specs.Body.{body};
 ghost use Rattle.plant_text.specs.Plant.{whole, roomy, file_of, headed, lacks_head};
-ghost use Rattle.plant_tables.specs.Room.{Roomy, Reserved};
+ghost use Rattle.plant_tables.specs.Room.{Roomy, Ready};
 ghost use Rattle.text_words.specs.Split.{parts};
 
 use crate::plant::Plant;
@@ -20,6 +20,7 @@ const MAX_NODES: u32 = 32;
 /// The plant that a text tells, or why it is refused. All memory that it needs is in the room already, so that it
 /// always answers what the format says of this text.
 pub fn read_plant(mut room: Room, input: &[u8]) -> Result<Plant, TextFault>
+    requires { Ready room }
     ensures told { result_map_both whole (λ e. e) result ≡ file_of input.now }
     ensures room { IfOk result roomy }
 {
@@ -53,7 +54,8 @@ fn lacks_head(input: &[u8]) -> bool
 
 /// The plant of this kind with n nodes and these lines.
 fn read_rest(room: Room, kind: Kind, n: u32, text: &[u8]) -> Result<Plant, TextFault>
-    requires { length text.now < 4096 }
+    requires ready { Ready room }
+    requires short { length text.now < 4096 }
     ensures told { result_map_both whole (λ e. e) result ≡ headed (parts 10 text.now) kind n }
     ensures room { IfOk result roomy }
 {

@@ -1,11 +1,23 @@
-use Rattle.std.proofs.Common.{◌<◌, ◌≤◌, length, get_or, take, refl, ◌∙◌, arith}
+use Rattle.std.proofs.Common.{◌≡◌, ℕ, ◌+◌, ◌<◌, ◌≤◌, List, Bool, length, get_or, take, refl, ◌∙◌, arith}
+use Rattle.weights.specs.declared.order.Side.{Side}
+use Rattle.promise.specs.declared.answer.Answer.{Answer}
 use Rattle.promise.proofs.Keeps.{never-broken}
+use Rattle.installation.specs.declared.call.Line.{Line}
 use Rattle.installation.specs.Perform.{calls, answers}
-use Rattle.installation.specs.Hands.{hand}
+use Rattle.installation.specs.Hands.{Hand, Makes, Leads, hand}
 use Rattle.installation.proofs.Tables.{tables-kept, kept-then}
-use Rattle.installation.proofs.Logs.{blank, calls-noted, answers-noted, calls-on, whole-log}
+use Rattle.installation.proofs.Logs.{blank, noted, calls-noted, answers-noted, calls-on, whole-log}
 use Rattle.installation.proofs.Held.{turns-run, leads-none, leads-on}
 use Rattle.installation.proofs.performing.resume.Goals as goal
+
+-- One more line: its call was made, and what it answered was written into it.
+one-more : {W F : Type 0} (side : W → W → Side) (carrying : F → List Bool) (from now next : Hand W F) (old log : List Line) (i : ℕ) (a : Answer)
+    → i < length log → calls log ≡ calls old → Leads side carrying from (take i (calls old)) (take i (answers log)) now
+    → Makes side carrying now (get_or log i blank).call a next
+    → Leads side carrying from (take (i + 1) (calls old)) (take (i + 1) (answers (noted log i a))) next
+one-more side carrying from now next old log i a h e run made =
+    rw (← calls-on log old i h e, answers-noted log i a h)
+    (leads-on side carrying from now next (take i (calls old)) (take i (answers log)) (get_or log i blank).call a run made)
 
 pub loop-line-init : goal.loop-line-init
 loop-line-init g c = record {
@@ -25,9 +37,8 @@ loop-line-preserved g c =
     let r = c.make-answer.result in
     let e = c.make-answer.ensures in
     let h : i < length log = let k = l.auto.log in let t = c.loop-line-test.true in omega arith in
-    let x = leads-on g.W.Ordered.side g.F.Fabric.carrying _ _ _ (take i (calls old)) (take i (answers log)) (get_or log i blank).call r.answer l.invariant.run e.made in
     record {
-      run = rw (← calls-on log old i h l.invariant.log, answers-noted log i r.answer h) x;
+      run = one-more g.W.Ordered.side g.F.Fabric.carrying _ _ _ old log i r.answer h l.invariant.log l.invariant.run e.made;
       log = calls-noted log i r.answer h ∙ l.invariant.log;
       lent = (e.lent.0 ∙ l.invariant.lent.0, e.lent.1 ∙ l.invariant.lent.1);
       held = kept-then l.invariant.held e.held;
