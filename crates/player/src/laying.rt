@@ -31,7 +31,7 @@ fn survey<F: Fabric>(fabric: &F, m: u32, list: &StartList) -> Found
     };
     let mut at = 0;
     for link in 1..=m {
-        let on = fabric.look(link) == Ok(true);
+        let on = fabric.look(link).unwrap();
         let listed = list.lists_at(at, link);
         found.blank &= !on;
         found.exact &= on == listed;

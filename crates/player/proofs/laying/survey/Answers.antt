@@ -1,8 +1,7 @@
 use Rattle.std.proofs.Common.{◌≡◌, ◌+◌, false, ◌&&◌, [], refl, sym, ◌∙◌, subst, arith}
 use mathlib.Core.Bool.{beq}
-use Rattle.fabrics.specs.Meaning.{carries}
+use Rattle.fabrics.specs.Meaning.{carries, Looks}
 use Rattle.player.specs.Start.{Parts}
-use Rattle.player.proofs.Grants.{among_in, look-tells}
 use Rattle.player.proofs.Only.{Judged, judged-more, judged-all, unlisted}
 use Rattle.player.proofs.Places.{parts-start, parts-step, parts-after-miss}
 use Rattle.player.proofs.Walks.{list-nonzero}
@@ -22,7 +21,7 @@ loop-link-preserved g c =
     let k = g.F.Fabric.carrying c.args.fabric.now in
     let xs = c.args.list.now.links.now in
     let link = c.loop-link.link in
-    let on : c.eq-on.result ≡ carries k link = c.eq-on.ensures ∙ look-tells _ k link c.look.result (among_in k link (omega arith) (omega (arith, c.requires.size))) c.look.ensures in (
+    let on : c.unwrap-on.result ≡ carries k link = (subst (Looks k link) c.unwrap-on.ensures c.look.ensures).1 in (
       subst (Judged c.args.m [] k (link + 1)) (unlisted _ _) (judged-more c.args.m [] k c.requires.size link (omega arith) (omega arith) _ _ false c.loop-link.invariant.0 on refl),
       judged-more c.args.m xs k c.requires.size link (omega arith) (omega arith) _ _ _ c.loop-link.invariant.1 on c.lists_at-listed.ensures,
       elim c.if-listed.branch [
@@ -44,9 +43,9 @@ returns-after-listed-clause-blank g c =
     let k = g.F.Fabric.carrying c.args.fabric.now in
     let link = c.loop-link.link in
     let e : link ≡ c.args.m = omega arith in
-    let on : c.eq-on.result ≡ carries k link = c.eq-on.ensures ∙ look-tells _ k link c.look.result (among_in k link (omega arith) (omega (arith, c.requires.size))) c.look.ensures in
+    let on : c.unwrap-on.result ≡ carries k link = (subst (Looks k link) c.unwrap-on.ensures c.look.ensures).1 in
     let j = judged-more c.args.m [] k c.requires.size link (omega arith) (omega arith) _ _ false c.loop-link.invariant.0 on refl in
-    sym (unlisted _ _) ∙ judged-all c.args.m [] k c.requires.size _ (subst (λ n. Judged c.args.m [] k (n + 1) (c.loop-link.found.blank && beq c.eq-on.result false)) e j)
+    sym (unlisted _ _) ∙ judged-all c.args.m [] k c.requires.size _ (subst (λ n. Judged c.args.m [] k (n + 1) (c.loop-link.found.blank && beq c.unwrap-on.result false)) e j)
 
 pub returns-after-listed-clause-exact : goal.returns-after-listed-clause-exact
 returns-after-listed-clause-exact g c =
@@ -54,6 +53,6 @@ returns-after-listed-clause-exact g c =
     let xs = c.args.list.now.links.now in
     let link = c.loop-link.link in
     let e : link ≡ c.args.m = omega arith in
-    let on : c.eq-on.result ≡ carries k link = c.eq-on.ensures ∙ look-tells _ k link c.look.result (among_in k link (omega arith) (omega (arith, c.requires.size))) c.look.ensures in
+    let on : c.unwrap-on.result ≡ carries k link = (subst (Looks k link) c.unwrap-on.ensures c.look.ensures).1 in
     let j = judged-more c.args.m xs k c.requires.size link (omega arith) (omega arith) _ _ _ c.loop-link.invariant.1 on c.lists_at-listed.ensures in
-    judged-all c.args.m xs k c.requires.size _ (subst (λ n. Judged c.args.m xs k (n + 1) (c.loop-link.found.exact && beq c.eq-on.result c.lists_at-listed.result)) e j)
+    judged-all c.args.m xs k c.requires.size _ (subst (λ n. Judged c.args.m xs k (n + 1) (c.loop-link.found.exact && beq c.unwrap-on.result c.lists_at-listed.result)) e j)
