@@ -1,7 +1,7 @@
 //! The whole text.
-ghost use Rattle.std.specs.Prelude.{◌≡◌, ◌<◌, ◌≤◌, Ok, length, vec_capacity, IfOk};
-ghost use Rattle.std.specs.Result.{result_and, result_map_both};
-ghost use Rattle.plant_tables.specs.File.{seen, blank};
+ghost use Rattle.std.specs.Prelude.{◌≡◌, ◌<◌, ◌≤◌, length, vec_capacity, IfOk};
+ghost use Rattle.std.specs.Result.{result_map_both};
+ghost use Rattle.plant_tables.specs.File.{seen};
 ghost use Rattle.plant_text.specs.Body.{body};
 ghost use Rattle.plant_text.specs.Plant.{whole, roomy, file_of, headed, lacks_head};
 ghost use Rattle.plant_tables.specs.Room.{Roomy, Ready};
